@@ -1,0 +1,3 @@
+pub mod Tests
+pub mod Closure
+pub mod Derivation

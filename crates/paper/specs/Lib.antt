@@ -1,0 +1,16 @@
+pub mod Bytes
+pub mod Tests
+pub mod Trailer
+pub mod Records
+pub mod Refusals
+pub mod Rows
+pub mod Terms
+pub mod Sheet
+pub mod Satisfy
+pub mod Open
+pub mod Decide
+pub mod Opens
+pub mod Walk
+pub mod Cuts
+pub mod Gate
+pub mod Answers

@@ -1,0 +1,44 @@
+-- Parts, terms and cuts. A place of a term is a byte that is known or one that is not.
+use Prim.Native.Nat.{ℕ, zero, suc, _+_, _-_}
+use mathlib.Core.Bool.{Bool, true, cond}
+use mathlib.Core.List.{List, [], _∷_, _++_, map}
+use lib.Dec.{eqb, leb}
+use lib.ListN.{length, replicate}
+use Rattle.paper.specs.Rows.{stretch}
+
+pub data Part : Type 0 where
+  Const : ℕ → ℕ → Part  -- 1: text from offset a, b bytes
+  All : Part  -- 2: all of v
+  Cut : ℕ → ℕ → Part  -- 3: b bytes of v from position a
+
+-- the part of a kind with its a and b
+unfoldable pub partOf : (kind a b : ℕ) → Part
+partOf kind a b =
+    cond (eqb kind 1) (Const a b)
+    (cond (eqb kind 2) All
+    (Cut a b))
+
+pub data Place : Type 0 where
+  Known : ℕ → Place
+  Unknown : Place
+
+-- v at length n under a prefix: the prefix's bytes are known, the others not
+unfoldable pub placesOf : ℕ → List ℕ → List Place
+placesOf n p = map Known p ++ replicate (n - length p) Unknown
+
+-- what one part stands for, given the text and v; `known` makes an element of a byte, so that v may be a word or a list of places
+unfoldable pub piece : {A : Type 0} → (ℕ → A) → List ℕ → List A → Part → List A
+piece known text v (Const a b) = map known (stretch 0 text a b)
+piece known text v All = v
+piece known text v (Cut a b) = stretch (known 0) v a b
+
+-- "a term is a run of parts, joined; no parts is the empty word"
+unfoldable pub term : {A : Type 0} → (ℕ → A) → List ℕ → List A → List Part → List A
+term known text v [] = []
+term known text v (p ∷ ps) = piece known text v p ++ term known text v ps
+
+-- a cut does not reach past the end of v at length n
+unfoldable pub cutInside : ℕ → Part → Bool
+cutInside n (Const a b) = true
+cutInside n All = true
+cutInside n (Cut a b) = leb (a + b) n
