@@ -1,3 +1,4 @@
+pub mod Keys
 pub mod Tests
 pub mod Closure
 pub mod Derivation

@@ -14,3 +14,4 @@ pub mod Walk
 pub mod Cuts
 pub mod Gate
 pub mod Answers
+pub mod Keys
