@@ -2,3 +2,5 @@ pub mod Keys
 pub mod Tests
 pub mod Closure
 pub mod Derivation
+pub mod Sound
+pub mod Options
