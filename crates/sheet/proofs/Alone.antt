@@ -1,0 +1,36 @@
+-- Two answers that the promise of `check` allows for one sheet are one answer: the number has an inverse.
+-- Assumes nothing.
+use Prim.Native.Nat.{ℕ}
+use mathlib.Core.List.{List}
+use mathlib.Core.Path.{_≡_, refl, sym, ap, _∙_}
+use mathlib.Core.Bool.{cond}
+use lib.Dec.{eqb}
+use Rattle.paper.specs.Refusals.{refusal}
+use Rattle.sheet.specs.Verdict.{numberOf}
+use Rattle.sheet.specs.declared.Verdict.{Verdict}
+use Rattle.sheet.specs.declared.Verdict.the-variants.{Accepted, Short, Long, Mark, Total, Counts, Offsets, Record, Term}
+
+abbrev verdictOf : ℕ → Verdict
+verdictOf n =
+    cond (eqb n 10) Short
+    (cond (eqb n 11) Long
+    (cond (eqb n 12) Mark
+    (cond (eqb n 13) Total
+    (cond (eqb n 14) Counts
+    (cond (eqb n 15) Offsets
+    (cond (eqb n 16) Record
+    (cond (eqb n 17) Term Accepted)))))))
+
+back : (v : Verdict) → verdictOf (numberOf v) ≡ v
+back Accepted = refl
+back Short = refl
+back Long = refl
+back Mark = refl
+back Total = refl
+back Counts = refl
+back Offsets = refl
+back Record = refl
+back Term = refl
+
+pub alone : (s : List ℕ) (v w : Verdict) → numberOf v ≡ refusal s → numberOf w ≡ refusal s → v ≡ w
+alone s v w p q = sym (back v) ∙ ap verdictOf (p ∙ sym q) ∙ back w
