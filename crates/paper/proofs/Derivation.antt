@@ -277,7 +277,7 @@ nil-of-length : (w : List ℕ) → length w ≡ 0 → w ≡ []
 nil-of-length [] e = refl
 nil-of-length (x ∷ w) e = absurd (omega arith)
 
-stretch-length : (t : List ℕ) (off len : ℕ) → length (stretch 0 t off len) ≡ len
+pub stretch-length : (t : List ℕ) (off len : ℕ) → length (stretch 0 t off len) ≡ len
 unfolding stretch
 stretch-length t off zero = refl
 stretch-length t off (suc n) = ap suc (stretch-length t (suc off) n)

@@ -6,3 +6,5 @@ pub mod Gathered
 pub mod Encoding
 pub mod Sound
 pub mod Options
+pub mod Filling
+pub mod Opening

@@ -1,13 +1,15 @@
--- Laws of tests (Bool) read as statements, "b ≡ true": conjunction, disjunction, and searches over the numbers below n.
+-- Laws of tests (Bool) read as statements, "b ≡ true": conjunction, disjunction, searches over the numbers below n and over lists, tables.
 -- Assumes nothing.
 use Prim.Native.Nat.{ℕ, zero, suc, _+_, _≤_, _<_}
 use mathlib.Core.Path.{_≡_, refl, sym, ap, _∙_, subst}
 use mathlib.Core.Bool.{Bool, true, false, _&&_, _||_, true≢false}
 use mathlib.Core.Logic.{_↔_, _⊎_, inl, inr}
 use native.Mathlib.Omega.{arith}
+use mathlib.Core.List.{List, [], _∷_, _++_}
 use lib.Dec.{T, eqb, eqb→eq, eqb-refl}
-use Rattle.paper.specs.Tests.{anyBelow}
-use native.Mathlib.Nat.{not-suc-le-zero, eq-or-lt-of-le, le-of-suc-le-suc}
+use lib.ListN.{length, getD}
+use Rattle.paper.specs.Tests.{anyBelow, allBelow, anyOf, allOf, Every, tableFrom}
+use native.Mathlib.Nat.{not-suc-le-zero, eq-or-lt-of-le, le-of-suc-le-suc, add-zero, add-suc, suc-add}
 
 pub and-intro : {a b : Bool} → a ≡ true → b ≡ true → (a && b) ≡ true
 and-intro p q = rw (p, q)
@@ -107,3 +109,157 @@ any-none f = refl
 pub any-first : (n : ℕ) (f : ℕ → Bool) → anyBelow (suc n) f ≡ (f 0 || anyBelow n (λ k. f (suc k)))
 any-first zero f = any-suc zero f ∙ rw (any-none f, any-none (λ k. f (suc k)))
 any-first (suc n) f = any-suc (suc n) f ∙ rw (any-first n f, any-suc n (λ k. f (suc k))) (or-swap (f (suc n)) (f 0) _)
+
+-- ---- each number below n
+
+pub all-none : (f : ℕ → Bool) → allBelow 0 f ≡ true
+unfolding allBelow
+all-none f = refl
+
+pub all-suc : (n : ℕ) (f : ℕ → Bool) → allBelow (suc n) f ≡ (f n && allBelow n f)
+unfolding allBelow
+all-suc n f = go (f n) refl
+  where
+    go : (b : Bool) → f n ≡ b → allBelow (suc n) f ≡ (f n && allBelow n f)
+    go true p = rw (p, allBelow)
+    go false p = rw (p, allBelow)
+
+pub all-intro : (n : ℕ) (f : ℕ → Bool) → ((k : ℕ) → k < n → f k ≡ true) → allBelow n f ≡ true
+all-intro zero f h = all-none f
+all-intro (suc n) f h = rw all-suc (and-intro (h n (omega arith)) (all-intro n f (λ k l. h k (omega arith))))
+
+pub all-elim : (n : ℕ) (f : ℕ → Bool) → allBelow n f ≡ true → (k : ℕ) → k < n → f k ≡ true
+all-elim zero f e k h = absurd (not-suc-le-zero h)
+all-elim (suc n) f e k h = go (eq-or-lt-of-le (le-of-suc-le-suc h)) (λ l. all-elim n f (and-right (f n) _ (rw all-suc at e)) k l)
+  where
+    go : (k ≡ n) ⊎ (k < n) → (k < n → f k ≡ true) → f k ≡ true
+    go (inl p) ih = rw p (and-left (f n) (allBelow n f) (rw all-suc at e))
+    go (inr l) ih = ih l
+
+-- ---- the elements of a list
+
+module _ {A : Type 0} where
+  pub any-of-nil : (f : A → Bool) → anyOf f [] ≡ false
+  unfolding anyOf
+  any-of-nil f = refl
+
+  pub any-of-cons : (f : A → Bool) (x : A) (l : List A) → anyOf f (x ∷ l) ≡ (f x || anyOf f l)
+  unfolding anyOf
+  any-of-cons f x l = go (f x) refl
+    where
+      go : (b : Bool) → f x ≡ b → anyOf f (x ∷ l) ≡ (f x || anyOf f l)
+      go true p = rw (p, anyOf)
+      go false p = rw (p, anyOf)
+
+  pub all-of-nil : (f : A → Bool) → allOf f [] ≡ true
+  unfolding allOf
+  all-of-nil f = refl
+
+  pub all-of-cons : (f : A → Bool) (x : A) (l : List A) → allOf f (x ∷ l) ≡ (f x && allOf f l)
+  unfolding allOf
+  all-of-cons f x l = go (f x) refl
+    where
+      go : (b : Bool) → f x ≡ b → allOf f (x ∷ l) ≡ (f x && allOf f l)
+      go true p = rw (p, allOf)
+      go false p = rw (p, allOf)
+
+  pub any-of-append : (f : A → Bool) (l m : List A) → anyOf f (l ++ m) ≡ (anyOf f l || anyOf f m)
+  any-of-append f [] m = rw (any-of-nil f)
+  any-of-append f (x ∷ l) m =
+      let i = any-of-append f l m in
+      rw (any-of-cons f x (l ++ m), any-of-cons f x l, i) (sym (or-assoc (f x) (anyOf f l) (anyOf f m)))
+
+  pub all-of-append : (f : A → Bool) (l m : List A) → allOf f (l ++ m) ≡ (allOf f l && allOf f m)
+  all-of-append f [] m = rw (all-of-nil f)
+  all-of-append f (x ∷ l) m =
+      let i = all-of-append f l m in
+      rw (all-of-cons f x (l ++ m), all-of-cons f x l, i) (sym (and-assoc (f x) (allOf f l) (allOf f m)))
+
+  -- by the places of the list
+  pub any-of-below : (f : A → Bool) (l : List A) (d : A) → anyOf f l ≡ anyBelow (length l) (λ k. f (getD l k d))
+  any-of-below f [] d = any-of-nil f ∙ sym (any-none (λ k. f d))
+  any-of-below f (x ∷ l) d =
+      let i = any-of-below f l d in
+      rw (any-of-cons f x l, i, any-first (length l) (λ k. f (getD (x ∷ l) k d)))
+
+  pub all-of-at : (f : A → Bool) (l : List A) (d : A) → allOf f l ≡ true → (k : ℕ) → k < length l → f (getD l k d) ≡ true
+  all-of-at f [] d e k h = absurd (not-suc-le-zero h)
+  all-of-at f (x ∷ l) d e zero h = and-left (f x) (allOf f l) (rw (all-of-cons f x l) at e)
+  all-of-at f (x ∷ l) d e (suc k) h = all-of-at f l d (and-right (f x) (allOf f l) (rw (all-of-cons f x l) at e)) k (omega arith)
+
+  pub at-all-of : (f : A → Bool) (l : List A) (d : A) → ((k : ℕ) → k < length l → f (getD l k d) ≡ true) → allOf f l ≡ true
+  at-all-of f [] d h = all-of-nil f
+  at-all-of f (x ∷ l) d h = rw (all-of-cons f x l) (and-intro (h 0 (omega arith)) (at-all-of f l d (λ k m. h (suc k) (omega arith))))
+
+  pub all-of-below : (f : A → Bool) (l : List A) (d : A) → allOf f l ≡ allBelow (length l) (λ k. f (getD l k d))
+  all-of-below f l d =
+      same-test (allOf f l) (allBelow (length l) (λ k. f (getD l k d)))
+      (λ e. all-intro (length l) (λ k. f (getD l k d)) (all-of-at f l d e))
+      (λ e. at-all-of f l d (all-elim (length l) (λ k. f (getD l k d)) e))
+
+  -- a test of each element, and a property of every one
+  pub all-of-every : (f : A → Bool) (P : A → Type 0) → ((x : A) → f x ≡ true → P x) → (l : List A) → allOf f l ≡ true → Every P l
+  all-of-every f P h [] e = tt
+  all-of-every f P h (x ∷ l) e =
+      let q : (f x && allOf f l) ≡ true = rw (all-of-cons f x l) at e in
+      (h x (and-left (f x) (allOf f l) q), all-of-every f P h l (and-right (f x) (allOf f l) q))
+
+  pub every-all-of : (f : A → Bool) (P : A → Type 0) → ((x : A) → P x → f x ≡ true) → (l : List A) → Every P l → allOf f l ≡ true
+  every-all-of f P h [] e = all-of-nil f
+  every-all-of f P h (x ∷ l) e = rw (all-of-cons f x l) (and-intro (h x (e .0)) (every-all-of f P h l (e .1)))
+
+  pub every-map : (P Q : A → Type 0) → ((x : A) → P x → Q x) → (l : List A) → Every P l → Every Q l
+  every-map P Q h [] e = tt
+  every-map P Q h (x ∷ l) e = (h x (e .0), every-map P Q h l (e .1))
+
+  pub every-append : (P : A → Type 0) (l m : List A) → Every P l → Every P m → Every P (l ++ m)
+  every-append P [] m h g = g
+  every-append P (x ∷ l) m h g = (h .0, every-append P l m (h .1) g)
+
+  pub every-left : (P : A → Type 0) (l m : List A) → Every P (l ++ m) → Every P l
+  every-left P [] m h = tt
+  every-left P (x ∷ l) m h = (h .0, every-left P l m (h .1))
+
+  pub every-right : (P : A → Type 0) (l m : List A) → Every P (l ++ m) → Every P m
+  every-right P [] m h = h
+  every-right P (x ∷ l) m h = every-right P l m (h .1)
+
+  pub every-at : (P : A → Type 0) (l : List A) (d : A) → Every P l → (k : ℕ) → k < length l → P (getD l k d)
+  every-at P [] d e k h = absurd (not-suc-le-zero h)
+  every-at P (x ∷ l) d e zero h = e .0
+  every-at P (x ∷ l) d e (suc k) h = every-at P l d (e .1) k (omega arith)
+
+  pub at-every : (P : A → Type 0) (l : List A) (d : A) → ((k : ℕ) → k < length l → P (getD l k d)) → Every P l
+  at-every P [] d h = tt
+  at-every P (x ∷ l) d h = (h 0 (omega arith), at-every P l d (λ k m. h (suc k) (omega arith)))
+
+  -- ---- tables
+
+  pub table-length : (i n : ℕ) (f : ℕ → A) → length (tableFrom i n f) ≡ n
+  unfolding tableFrom
+  table-length i zero f = refl
+  table-length i (suc n) f = ap suc (table-length (suc i) n f)
+
+  pub table-at : (i n : ℕ) (f : ℕ → A) (d : A) (k : ℕ) → k < n → getD (tableFrom i n f) k d ≡ f (i + k)
+  unfolding tableFrom
+  table-at i zero f d k h = absurd (not-suc-le-zero h)
+  table-at i (suc n) f d zero h = rw add-zero
+  table-at i (suc n) f d (suc k) h = table-at (suc i) n f d k (omega arith) ∙ rw (suc-add, ← add-suc)
+
+  pub any-of-table : (f : A → Bool) (i n : ℕ) (g : ℕ → A) → anyOf f (tableFrom i n g) ≡ anyBelow n (λ k. f (g (i + k)))
+  unfolding tableFrom
+  any-of-table f i zero g = any-of-nil f ∙ sym (any-none (λ k. f (g (i + k))))
+  any-of-table f i (suc n) g =
+      let e = any-of-table f (suc i) n g in
+      rw (any-of-cons f (g i) (tableFrom (suc i) n g), e, any-first n (λ k. f (g (i + k)))) (simp (add-zero, add-suc, suc-add))
+
+  pub all-of-table : (f : A → Bool) (i n : ℕ) (g : ℕ → A) → allOf f (tableFrom i n g) ≡ allBelow n (λ k. f (g (i + k)))
+  all-of-table f i n g = same-test _ _ there back
+    where
+      there : allOf f (tableFrom i n g) ≡ true → allBelow n (λ k. f (g (i + k))) ≡ true
+      there e = all-intro n (λ k. f (g (i + k))) (λ k l. rw (table-at i n g (g i) k l) at (all-of-at f (tableFrom i n g) (g i) e k (rw table-length l)))
+
+      back : allBelow n (λ k. f (g (i + k))) ≡ true → allOf f (tableFrom i n g) ≡ true
+      back e =
+          at-all-of f (tableFrom i n g) (g i)
+          (λ k l. let m : k < n = rw table-length at l in rw (table-at i n g (g i) k m) (all-elim n (λ k. f (g (i + k))) e k m))

@@ -1,0 +1,242 @@
+-- The test `opens` decides Open as the paper words it, and what Open says of a full prefix and of the prefixes of a key that satisfies.
+-- Assumes nothing.
+use Prim.Native.Nat.{ℕ, zero, suc, _+_, _-_, _≤_, _<_}
+use mathlib.Core.Path.{_≡_, refl, sym, ap, _∙_, subst}
+use mathlib.Core.Bool.{Bool, true, false, cond, not, _&&_, _||_, true≢false}
+use mathlib.Core.Logic.{_↔_, _⊎_, inl, inr}
+use mathlib.Core.List.{List, [], _∷_, _++_, map, map-append, append-nil}
+use native.Mathlib.Omega.{arith}
+use lib.Dec.{eqb}
+use lib.ListN.{length, getD, take, drop, length-append, take-append-drop, length-drop}
+use lib.Seq.{take-length, drop-append-seam}
+use borrow.Author.Tests.{ltb-true, not-true}
+use Rattle.paper.specs.Tests.{anyBelow, allBelow, anyOf, Every}
+use Rattle.paper.specs.Rows.{stretch, Derives}
+use Rattle.paper.specs.Decide.{fits, accepts}
+use Rattle.paper.specs.Terms.{Place, Known, Unknown}
+use Rattle.paper.specs.Sheet.{Sheet, Claim, Derived, Contains, Equals, Assertion, Run, secondRun, letter, inside}
+use Rattle.paper.specs.Satisfy.{termWord, Holds, Signed, Met, Letters, Satisfies}
+use Rattle.paper.specs.Open.{termPlaces, Fills, SomeUnknown, CanHold, CanFail, Can, Possible, Open}
+use Rattle.paper.specs.Opens.{allows, pattern, meet, canHold, isUnknown, canFail, can, possible, opens}
+use Rattle.paper.proofs.Tests.{and-intro, and-left, and-right, or-left, or-right, or-cases, true-or-false, any-intro, any-elim, all-intro, all-elim, all-of-every, every-all-of, every-map, every-right, any-of-append, eqb-same, same-eqb}
+use Rattle.paper.proofs.Derivation.{stretch-length, accepts-right}
+use Rattle.paper.proofs.Filling.{unknown-or-known, unknown-left, unknown-right, known-no-unknown, some-unknown, unknown-some, none-unknown, known-injective, fills-known, fills-only, fills-length, fills-append, fills-take, fills-drop, letter-fills, fills-cons, fills-below, fits-drop, fits-fills, fills-fits, prefix-fills, places-known}
+
+-- some word fills the places: so where no place is unknown, and where there is a letter
+abbrev pub Fillable : Sheet → List Place → Type 0
+Fillable s T = (t : List ℕ) × Fills s T t
+
+pub letter-byte : (s : Sheet) (b : ℕ) → letter s b ≡ true → b < 256
+unfolding letter
+letter-byte s b e = ltb-true b 256 (and-left _ _ e)
+
+module _ (s : Sheet) where
+  -- ---- a claim that is asserted
+
+  can-derive : (r : ℕ) (T : List Place) → accepts (s .grammar) (pattern s T) (length T) 0 r ≡ true → (t : List ℕ) × Fills s T t × Derives (s .grammar) r t
+  can-derive r T e =
+      let w = (accepts-right (s .grammar) (pattern s T) (length T) 0 r) .0 e in
+      let n : length (w .word) ≡ length T = w .long in
+      (w .word, rw (n, take-length) at (fits-fills s T (w .word) (omega arith) (w .fit)), w .derived)
+
+  derive-can : (r : ℕ) {T : List Place} {t : List ℕ} → Fills s T t → Derives (s .grammar) r t → accepts (s .grammar) (pattern s T) (length T) 0 r ≡ true
+  derive-can r {T} {t} f d =
+      (accepts-right (s .grammar) (pattern s T) (length T) 0 r) .1
+      (record { word = t; long = fills-length s f; fit = fills-fits s f t [] (sym (append-nil t)); derived = d })
+
+  -- a word at place i of the term, the other places filled somehow
+  can-contain : (T : List Place) (i : ℕ) (m : List ℕ) → i + length m ≤ length T → fits (pattern s T) i m ≡ true → Fillable s T
+      → (x : List ℕ) × (y : List ℕ) × Fills s T (x ++ (m ++ y))
+  can-contain T i m h e (t, f) =
+      let g = fits-fills s (drop i T) m (rw length-drop (omega arith)) (sym (fits-drop s T i m (omega arith)) ∙ e) in
+      let k : take i T ++ (take (length m) (drop i T) ++ drop (length m) (drop i T)) ≡ T = rw (take-append-drop (length m) (drop i T)) (take-append-drop i T) in
+      (take i t, drop (length m) (drop i t),
+      subst (λ (U : List Place). Fills s U (take i t ++ (m ++ drop (length m) (drop i t)))) k
+      (fills-append s (fills-take s f i) (fills-append s g (fills-drop s (fills-drop s f i) (length m)))))
+
+  contain-can : {T : List Place} (x m y : List ℕ) → Fills s T (x ++ (m ++ y)) → (length x + length m ≤ length T) × (fits (pattern s T) (length x) m ≡ true)
+  contain-can {T} x m y f =
+      let n = fills-length s f in
+      let l : length x + length m ≤ length T = omega (arith, length-append x (m ++ y), length-append m y) in
+      (l, fits-drop s T (length x) m (omega arith) ∙ fills-fits s (fills-drop s f (length x)) m y (drop-append-seam x (m ++ y)))
+
+  meet-byte : (P Q : Place) → meet s P Q ≡ true → (b : ℕ) × (allows s P b ≡ true) × (allows s Q b ≡ true)
+  unfolding meet allows
+  meet-byte (Known x) Q e = (x, same-eqb x x refl, e)
+  meet-byte Unknown (Known y) e = (y, e, same-eqb y y refl)
+  meet-byte Unknown Unknown e = let r = any-elim 256 (letter s) e in (r .0, r .2, r .2)
+
+  byte-meet : (P Q : Place) (b : ℕ) → allows s P b ≡ true → allows s Q b ≡ true → meet s P Q ≡ true
+  unfolding meet allows
+  byte-meet (Known x) Q b e f = rw (eqb-same b x e) at f
+  byte-meet Unknown (Known y) b e f = rw (eqb-same b y f) at e
+  byte-meet Unknown Unknown b e f = any-intro 256 (letter s) b (letter-byte s b e) e
+
+  can-equal : (T U : List Place) → length T ≡ length U → ((i : ℕ) → i < length T → meet s (getD T i Unknown) (getD U i Unknown) ≡ true)
+      → (t : List ℕ) × Fills s T t × Fills s U t
+  can-equal [] [] n h = ([], Fills.none, Fills.none)
+  can-equal [] (Q ∷ U) n h = absurd (omega arith)
+  can-equal (P ∷ T) [] n h = absurd (omega arith)
+  can-equal (P ∷ T) (Q ∷ U) n h =
+      let b = meet-byte P Q (h 0 (omega arith)) in
+      let r = can-equal T U (omega arith) (λ i l. h (suc i) (omega arith)) in
+      (b .0 ∷ r .0, fills-cons s P (b .0) (b .1) (r .1), fills-cons s Q (b .0) (b .2) (r .2))
+
+  -- where each term can be filled somehow, a claim that passes holds of some fillings
+  can-hold : (c : Claim) (T U : List Place) → Fillable s T → Fillable s U → canHold s c T U ≡ true → CanHold s c T U
+  unfolding canHold
+  can-hold (Derived r) T U f g e = let d = can-derive r T e in (d .0, g .0, d .1, g .1, d .2)
+  can-hold (Contains a b) T U f g e =
+      let m = stretch 0 (s .grammar .text) a b in
+      let z = any-elim (suc (length T) - b) (λ i. fits (pattern s T) i m) e in
+      let l : z .0 < suc (length T) - b = z .1 in
+      let d = can-contain T (z .0) m (omega (arith, stretch-length (s .grammar .text) a b)) (z .2) f in
+      (d .0 ++ (m ++ d .1), g .0, d .2, g .1, (d .0, d .1, refl))
+  can-hold (Equals a b) T U f g e =
+      let d =
+      can-equal T U (eqb-same (length T) (length U) (and-left _ _ e))
+      (all-elim (length T) (λ i. meet s (getD T i Unknown) (getD U i Unknown)) (and-right (eqb (length T) (length U)) _ e)) in
+      (d .0, d .0, d .1, d .2, refl)
+
+  -- a claim that holds of some fillings passes
+  hold-can : (c : Claim) (T U : List Place) → CanHold s c T U → canHold s c T U ≡ true
+  unfolding canHold
+  hold-can (Derived r) T U (t, u, f, g, h) = derive-can r f h
+  hold-can (Contains a b) T U (t, u, f, g, (x, y, e)) =
+      let m = stretch 0 (s .grammar .text) a b in
+      let z = contain-can x m y (rw e at f) in
+      any-intro (suc (length T) - b) (λ i. fits (pattern s T) i m) (length x) (omega (arith, z .0, stretch-length (s .grammar .text) a b)) (z .1)
+  hold-can (Equals a b) T U (t, u, f, g, e) =
+      let n : length T ≡ length U = omega (arith, fills-length s f, fills-length s g, ap length e) in
+      and-intro (same-eqb (length T) (length U) n)
+      (all-intro (length T) (λ i. meet s (getD T i Unknown) (getD U i Unknown))
+      (λ i l. byte-meet (getD T i Unknown) (getD U i Unknown) (getD t i 0) (fills-below s f Unknown i l) (rw e (fills-below s g Unknown i (omega arith)))))
+
+  -- a claim of known words can hold exactly when it holds
+  known-hold : (c : Claim) (t u : List ℕ) → CanHold s c (map Known t) (map Known u) ↔ Holds s c t u
+  known-hold c t u = (there, λ h. (t, u, fills-known s t, fills-known s u, h))
+    where
+      there : CanHold s c (map Known t) (map Known u) → Holds s c t u
+      there (x, y, f, g, h) =
+          subst (λ (z : List ℕ). Holds s c t z) (fills-only s g u refl)
+          (subst (λ (z : List ℕ). Holds s c z y) (fills-only s f t refl) h)
+
+  -- ---- a claim that is denied
+
+  -- some place is unknown, or no known words make it hold
+  fail-known : (c : Claim) (T U : List Place) → ((t u : List ℕ) → T ≡ map Known t → U ≡ map Known u → Holds s c t u → ⊥) → CanFail s c T U
+  fail-known c T U h = go (unknown-or-known T) (unknown-or-known U)
+    where
+      go : SomeUnknown T ⊎ ((t : List ℕ) × (T ≡ map Known t)) → SomeUnknown U ⊎ ((u : List ℕ) × (U ≡ map Known u)) → CanFail s c T U
+      go (inl p) q = inl (unknown-left T U p)
+      go (inr p) (inl q) = inl (unknown-right T U q)
+      go (inr (t, p)) (inr (u, q)) = inr (t, u, p, q, h t u p q)
+
+  can-fail : (c : Claim) (T U : List Place) → canFail s c T U ≡ true → CanFail s c T U
+  unfolding canFail
+  can-fail c T U e = first (or-cases (anyOf isUnknown T) _ e)
+    where
+      second : (anyOf isUnknown U ≡ true) ⊎ (not (canHold s c T U) ≡ true) → CanFail s c T U
+      second (inl p) = inl (unknown-right T U (some-unknown U p))
+      second (inr o) =
+          fail-known c T U
+          (λ t u p q h. true≢false (sym (hold-can c T U (rw (p, q) (known-hold c t u .1 h))) ∙ not-true (canHold s c T U) o))
+
+      first : (anyOf isUnknown T ≡ true) ⊎ ((anyOf isUnknown U || not (canHold s c T U)) ≡ true) → CanFail s c T U
+      first (inl p) = inl (unknown-left T U (some-unknown T p))
+      first (inr p) = second (or-cases (anyOf isUnknown U) _ p)
+
+  fail-can : (c : Claim) (T U : List Place) → CanFail s c T U → canFail s c T U ≡ true
+  unfolding canFail
+  fail-can c T U (inl z) = go (or-cases (anyOf isUnknown T) (anyOf isUnknown U) (sym (any-of-append isUnknown T U) ∙ unknown-some (T ++ U) z))
+    where
+      go : (anyOf isUnknown T ≡ true) ⊎ (anyOf isUnknown U ≡ true) → (anyOf isUnknown T || (anyOf isUnknown U || not (canHold s c T U))) ≡ true
+      go (inl p) = or-left (anyOf isUnknown T) _ p
+      go (inr p) = or-right (anyOf isUnknown T) _ (or-left (anyOf isUnknown U) _ p)
+  fail-can c T U (inr (t, u, p, q, h)) =
+      rw (p, q) (or-right (anyOf isUnknown (map Known t)) _ (or-right (anyOf isUnknown (map Known u)) _ (go (true-or-false (canHold s c (map Known t) (map Known u))))))
+    where
+      go : (canHold s c (map Known t) (map Known u) ≡ true) ⊎ (canHold s c (map Known t) (map Known u) ≡ false) → not (canHold s c (map Known t) (map Known u)) ≡ true
+      go (inl o) = absurd (h (known-hold c t u .0 (can-hold c (map Known t) (map Known u) (t, fills-known s t) (u, fills-known s u) o)))
+      go (inr o) = rw o
+
+  known-fail : (c : Claim) (t u : List ℕ) → CanFail s c (map Known t) (map Known u) ↔ (Holds s c t u → ⊥)
+  known-fail c t u = (there, λ h. inr (t, u, refl, refl, h))
+    where
+      there : CanFail s c (map Known t) (map Known u) → Holds s c t u → ⊥
+      there (inl z) h = known-no-unknown (t ++ u) (rw map-append z)
+      there (inr (x, y, p, q, n)) h = n (rw (known-injective t x p, known-injective u y q) at h)
+
+  -- ---- an assertion, and all of them
+
+  can-signed : (d : Bool) (c : Claim) (T U : List Place) → Fillable s T → Fillable s U → cond d (canFail s c T U) (canHold s c T U) ≡ true → Can d s c T U
+  can-signed false c T U f g e = can-hold c T U f g e
+  can-signed true c T U f g e = can-fail c T U e
+
+  signed-can : (d : Bool) (c : Claim) (T U : List Place) → Can d s c T U → cond d (canFail s c T U) (canHold s c T U) ≡ true
+  signed-can false c T U h = hold-can c T U h
+  signed-can true c T U h = fail-can c T U h
+
+  known-signed : (d : Bool) (c : Claim) (t u : List ℕ) → Can d s c (map Known t) (map Known u) ↔ Signed d (Holds s c t u)
+  known-signed false c t u = known-hold c t u
+  known-signed true c t u = known-fail c t u
+
+  module _ (n : ℕ) (p : List ℕ) where
+    -- an open prefix passes
+    pub open-opens : Open s n p → opens s n p ≡ true
+    unfolding opens possible can
+    open-opens o =
+        every-all-of (possible s n p) (Possible s n p)
+        (λ a h. and-intro (h .within) (signed-can (a .denied) (a .claim) (termPlaces s n p (a .term)) (termPlaces s n p (secondRun (a .claim))) (h .can)))
+        (s .assertions) o
+
+    -- a prefix that passes is open, where its terms can be filled somehow
+    pub opens-open : ((r : Run) → Fillable s (termPlaces s n p r)) → opens s n p ≡ true → Open s n p
+    unfolding opens possible can
+    opens-open f e =
+        all-of-every (possible s n p) (Possible s n p)
+        (λ a h. record {
+          within = and-left (inside s n a) _ h;
+          can = can-signed (a .denied) (a .claim) (termPlaces s n p (a .term)) (termPlaces s n p (secondRun (a .claim))) (f (a .term)) (f (secondRun (a .claim))) (and-right (inside s n a) _ h);
+        })
+        (s .assertions) e
+
+  -- where there is a letter, the test decides Open (without one an unknown place has no filling, and a term that contains a text would pass all the same)
+  pub opens-right : (b : ℕ) → letter s b ≡ true → (n : ℕ) (p : List ℕ) → (opens s n p ≡ true) ↔ Open s n p
+  opens-right b l n p = (opens-open n p (λ r. letter-fills s b l (termPlaces s n p r)), open-opens n p)
+
+  -- ---- at a full prefix
+
+  full-fillable : (w : List ℕ) (r : Run) → Fillable s (termPlaces s (length w) w r)
+  full-fillable w r = (termWord s w r, rw places-known (fills-known s (termWord s w r)))
+
+  pub opens-full : (w : List ℕ) → (opens s (length w) w ≡ true) ↔ Open s (length w) w
+  opens-full w = (opens-open (length w) w (full-fillable w), open-opens (length w) w)
+
+  possible-met : (w : List ℕ) (a : Assertion) → Possible s (length w) w a ↔ Met s w a
+  possible-met w a =
+      let k = known-signed (a .denied) (a .claim) (termWord s w (a .term)) (termWord s w (secondRun (a .claim))) in
+      (λ h. record { within = h .within; holds = k .0 (rw (places-known s w (a .term), places-known s w (secondRun (a .claim))) at (h .can)) },
+      λ h. record { within = h .within; can = rw (places-known s w (a .term), places-known s w (secondRun (a .claim))) (k .1 (h .holds)) })
+
+  pub open-full : (w : List ℕ) → Open s (length w) w ↔ Every (Met s w) (s .assertions)
+  open-full w =
+      (every-map (Possible s (length w) w) (Met s w) (λ a. possible-met w a .0) (s .assertions),
+      every-map (Met s w) (Possible s (length w) w) (λ a. possible-met w a .1) (s .assertions))
+
+  -- ---- below a key that satisfies
+
+  prefix-can : (d : Bool) (c : Claim) (T U : List Place) (t u : List ℕ) → Fills s T t → Fills s U u → Signed d (Holds s c t u) → Can d s c T U
+  prefix-can false c T U t u f g h = (t, u, f, g, h)
+  prefix-can true c T U t u f g h = fail-known c T U (λ x y p q k. h (rw (fills-only s f x p, fills-only s g y q) k))
+
+  pub prefix-open : (p v : List ℕ) → Satisfies s (p ++ v) → Open s (length (p ++ v)) p
+  prefix-open p v h =
+      let l : Letters s v = every-right (λ b. letter s b ≡ true) p v (h .letters) in
+      every-map (Met s (p ++ v)) (Possible s (length (p ++ v)) p)
+      (λ a m. record {
+        within = m .within;
+        can = prefix-can (a .denied) (a .claim) (termPlaces s (length (p ++ v)) p (a .term)) (termPlaces s (length (p ++ v)) p (secondRun (a .claim)))
+          (termWord s (p ++ v) (a .term)) (termWord s (p ++ v) (secondRun (a .claim))) (prefix-fills s p v l (a .term)) (prefix-fills s p v l (secondRun (a .claim))) (m .holds);
+      })
+      (s .assertions) (h .met)
