@@ -8,3 +8,4 @@ pub mod Sound
 pub mod Options
 pub mod Filling
 pub mod Opening
+pub mod Walking

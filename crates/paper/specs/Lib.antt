@@ -11,6 +11,7 @@ pub mod Open
 pub mod Decide
 pub mod Opens
 pub mod Walk
+pub mod Order
 pub mod Cuts
 pub mod Gate
 pub mod Answers
