@@ -1,0 +1,1 @@
+// The groundwork of a sheet: what every trial reads and no trial changes.
