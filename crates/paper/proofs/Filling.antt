@@ -1,17 +1,16 @@
 -- Places and the words that fill them: by pattern, in parts, and where every place is known.
 -- Assumes nothing.
-use Prim.Native.Nat.{ℕ, zero, suc, _+_, _-_, _≤_, _<_}
+use Prim.Native.Nat.{ℕ, zero, suc, _-_, _≤_, _<_}
 use mathlib.Core.Path.{_≡_, refl, sym, ap, _∙_, subst}
-use mathlib.Core.Bool.{Bool, true, false, _&&_, true≢false}
-use mathlib.Core.Logic.{_↔_, _⊎_, inl, inr}
+use mathlib.Core.Bool.{Bool, true, _&&_, true≢false}
+use mathlib.Core.Logic.{_⊎_, inl, inr}
 use mathlib.Core.List.{List, [], _∷_, _++_, map, map-id, map-append, append-nil, append-assoc}
 use native.Mathlib.Omega.{arith}
-use native.Mathlib.Nat.{not-suc-le-zero, zero-add, add-zero, add-suc, suc-add}
-use lib.ListN.{length, getD, take, drop, replicate, length-append, length-map, length-replicate, List·getD-map, take-append-drop}
-use lib.Seq.{drop-append-seam, getD-drop}
-use Rattle.paper.specs.Tests.{Every, anyOf}
+use native.Mathlib.Nat.{not-suc-le-zero}
+use lib.ListN.{length, getD, take, drop, replicate, length-append, List·getD-map}
+use Rattle.paper.specs.Tests.{anyOf}
 use Rattle.paper.specs.Rows.{stretch}
-use Rattle.paper.specs.Decide.{Pattern, sameByte, fits}
+use Rattle.paper.specs.Decide.{fits}
 use Rattle.paper.specs.Terms.{Part, Const, All, Cut, Place, Known, Unknown, placesOf, piece, term}
 use Rattle.paper.specs.Sheet.{Sheet, Run, letter, partsOf}
 use Rattle.paper.specs.Satisfy.{termWord, Letters}
@@ -66,11 +65,6 @@ some-unknown (Known b ∷ T) e =
 pub unknown-some : (T : List Place) → SomeUnknown T → anyOf isUnknown T ≡ true
 unfolding isUnknown
 unknown-some T (x, y, e) = rw (e, any-of-append isUnknown x (Unknown ∷ y), any-of-cons isUnknown Unknown y) (or-right (anyOf isUnknown x) true refl)
-
-pub none-unknown : (t : List ℕ) → anyOf isUnknown (map Known t) ≡ false
-unfolding isUnknown
-none-unknown [] = any-of-nil isUnknown
-none-unknown (b ∷ t) = any-of-cons isUnknown (Known b) (map Known t) ∙ none-unknown t
 
 module _ (s : Sheet) where
   -- ---- the words that fill a list of places

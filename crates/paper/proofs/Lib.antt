@@ -9,3 +9,5 @@ pub mod Options
 pub mod Filling
 pub mod Opening
 pub mod Walking
+pub mod Budget
+pub mod Meaning

@@ -1,8 +1,8 @@
 -- The test `opens` decides Open as the paper words it, and what Open says of a full prefix and of the prefixes of a key that satisfies.
 -- Assumes nothing.
-use Prim.Native.Nat.{ℕ, zero, suc, _+_, _-_, _≤_, _<_}
+use Prim.Native.Nat.{ℕ, suc, _+_, _-_, _≤_, _<_}
 use mathlib.Core.Path.{_≡_, refl, sym, ap, _∙_, subst}
-use mathlib.Core.Bool.{Bool, true, false, cond, not, _&&_, _||_, true≢false}
+use mathlib.Core.Bool.{Bool, true, false, cond, not, _||_, true≢false}
 use mathlib.Core.Logic.{_↔_, _⊎_, inl, inr}
 use mathlib.Core.List.{List, [], _∷_, _++_, map, map-append, append-nil}
 use native.Mathlib.Omega.{arith}
@@ -10,7 +10,7 @@ use lib.Dec.{eqb}
 use lib.ListN.{length, getD, take, drop, length-append, take-append-drop, length-drop}
 use lib.Seq.{take-length, drop-append-seam}
 use borrow.Author.Tests.{ltb-true, not-true}
-use Rattle.paper.specs.Tests.{anyBelow, allBelow, anyOf, Every}
+use Rattle.paper.specs.Tests.{anyOf, Every}
 use Rattle.paper.specs.Rows.{stretch, Derives}
 use Rattle.paper.specs.Decide.{fits, accepts}
 use Rattle.paper.specs.Terms.{Place, Known, Unknown}
@@ -20,7 +20,7 @@ use Rattle.paper.specs.Open.{termPlaces, Fills, SomeUnknown, CanHold, Ca
 use Rattle.paper.specs.Opens.{allows, pattern, meet, canHold, isUnknown, canFail, can, possible, opens}
 use Rattle.paper.proofs.Tests.{and-intro, and-left, and-right, or-left, or-right, or-cases, true-or-false, any-intro, any-elim, all-intro, all-elim, all-of-every, every-all-of, every-map, every-right, any-of-append, eqb-same, same-eqb}
 use Rattle.paper.proofs.Derivation.{stretch-length, accepts-right}
-use Rattle.paper.proofs.Filling.{unknown-or-known, unknown-left, unknown-right, known-no-unknown, some-unknown, unknown-some, none-unknown, known-injective, fills-known, fills-only, fills-length, fills-append, fills-take, fills-drop, letter-fills, fills-cons, fills-below, fits-drop, fits-fills, fills-fits, prefix-fills, places-known}
+use Rattle.paper.proofs.Filling.{unknown-or-known, unknown-left, unknown-right, known-no-unknown, some-unknown, unknown-some, known-injective, fills-known, fills-only, fills-length, fills-append, fills-take, fills-drop, fills-cons, fills-below, fits-drop, fits-fills, fills-fits, prefix-fills, places-known}
 
 -- some word fills the places: so where no place is unknown, and where there is a letter
 abbrev pub Fillable : Sheet → List Place → Type 0
@@ -49,10 +49,12 @@ module _ (s : Sheet) where
       → (x : List ℕ) × (y : List ℕ) × Fills s T (x ++ (m ++ y))
   can-contain T i m h e (t, f) =
       let g = fits-fills s (drop i T) m (rw length-drop (omega arith)) (sym (fits-drop s T i m (omega arith)) ∙ e) in
-      let k : take i T ++ (take (length m) (drop i T) ++ drop (length m) (drop i T)) ≡ T = rw (take-append-drop (length m) (drop i T)) (take-append-drop i T) in
-      (take i t, drop (length m) (drop i t),
-      subst (λ (U : List Place). Fills s U (take i t ++ (m ++ drop (length m) (drop i t)))) k
-      (fills-append s (fills-take s f i) (fills-append s g (fills-drop s (fills-drop s f i) (length m)))))
+      let k : take i T ++ (take (length m) (drop i T) ++ drop (length m) (drop i T)) ≡ T = rw (take-append-drop (length m) (drop i T)) (take-append-drop i T) in (
+        take i t,
+        drop (length m) (drop i t),
+        subst (λ (U : List Place). Fills s U (take i t ++ (m ++ drop (length m) (drop i t)))) k
+            (fills-append s (fills-take s f i) (fills-append s g (fills-drop s (fills-drop s f i) (length m)))),
+      )
 
   contain-can : {T : List Place} (x m y : List ℕ) → Fills s T (x ++ (m ++ y)) → (length x + length m ≤ length T) × (fits (pattern s T) (length x) m ≡ true)
   contain-can {T} x m y f =
@@ -201,10 +203,6 @@ module _ (s : Sheet) where
         })
         (s .assertions) e
 
-  -- where there is a letter, the test decides Open (without one an unknown place has no filling, and a term that contains a text would pass all the same)
-  pub opens-right : (b : ℕ) → letter s b ≡ true → (n : ℕ) (p : List ℕ) → (opens s n p ≡ true) ↔ Open s n p
-  opens-right b l n p = (opens-open n p (λ r. letter-fills s b l (termPlaces s n p r)), open-opens n p)
-
   -- ---- at a full prefix
 
   full-fillable : (w : List ℕ) (r : Run) → Fillable s (termPlaces s (length w) w r)
@@ -215,14 +213,16 @@ module _ (s : Sheet) where
 
   possible-met : (w : List ℕ) (a : Assertion) → Possible s (length w) w a ↔ Met s w a
   possible-met w a =
-      let k = known-signed (a .denied) (a .claim) (termWord s w (a .term)) (termWord s w (secondRun (a .claim))) in
-      (λ h. record { within = h .within; holds = k .0 (rw (places-known s w (a .term), places-known s w (secondRun (a .claim))) at (h .can)) },
-      λ h. record { within = h .within; can = rw (places-known s w (a .term), places-known s w (secondRun (a .claim))) (k .1 (h .holds)) })
+      let k = known-signed (a .denied) (a .claim) (termWord s w (a .term)) (termWord s w (secondRun (a .claim))) in (
+        λ h. record { within = h .within; holds = k .0 (rw (places-known s w (a .term), places-known s w (secondRun (a .claim))) at (h .can)) },
+        λ h. record { within = h .within; can = rw (places-known s w (a .term), places-known s w (secondRun (a .claim))) (k .1 (h .holds)) },
+      )
 
   pub open-full : (w : List ℕ) → Open s (length w) w ↔ Every (Met s w) (s .assertions)
-  open-full w =
-      (every-map (Possible s (length w) w) (Met s w) (λ a. possible-met w a .0) (s .assertions),
-      every-map (Met s w) (Possible s (length w) w) (λ a. possible-met w a .1) (s .assertions))
+  open-full w = (
+    every-map (Possible s (length w) w) (Met s w) (λ a. possible-met w a .0) (s .assertions),
+    every-map (Met s w) (Possible s (length w) w) (λ a. possible-met w a .1) (s .assertions),
+  )
 
   -- ---- below a key that satisfies
 
@@ -237,6 +237,6 @@ module _ (s : Sheet) where
       (λ a m. record {
         within = m .within;
         can = prefix-can (a .denied) (a .claim) (termPlaces s (length (p ++ v)) p (a .term)) (termPlaces s (length (p ++ v)) p (secondRun (a .claim)))
-          (termWord s (p ++ v) (a .term)) (termWord s (p ++ v) (secondRun (a .claim))) (prefix-fills s p v l (a .term)) (prefix-fills s p v l (secondRun (a .claim))) (m .holds);
+            (termWord s (p ++ v) (a .term)) (termWord s (p ++ v) (secondRun (a .claim))) (prefix-fills s p v l (a .term)) (prefix-fills s p v l (secondRun (a .claim))) (m .holds);
       })
       (s .assertions) (h .met)

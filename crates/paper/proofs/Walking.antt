@@ -8,7 +8,7 @@ use mathlib.Core.List.{List, [], _∷_, _++_, append-assoc, append-nil}
 use native.Mathlib.Omega.{arith}
 use native.Mathlib.Decide.{decLt}
 use lib.ListN.{length, length-append}
-use Rattle.paper.specs.Walk.{Walked, found, none, plus, then, pick, count, run, upTo, every, tree, walk}
+use Rattle.paper.specs.Walk.{Walked, found, none, plus, then, pick, run, upTo, every, tree, walk}
 use Rattle.paper.specs.Sheet.{Sheet, letter}
 use Rattle.paper.specs.Satisfy.{Letters, Satisfies}
 use Rattle.paper.specs.Opens.{opens}
