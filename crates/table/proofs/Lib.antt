@@ -1,3 +1,4 @@
 pub mod Spans
 pub mod Words
 pub mod Bits
+pub mod Room

@@ -6,6 +6,7 @@ ghost use lib.ListN.{length};
 ghost use Rattle.paper.specs.Answers.{words, zeroed};
 ghost use Rattle.table.specs.Spans.{spanAt};
 ghost use Rattle.table.specs.Bits.{bitAt, setBit, wiped, copied, joined, noneAt};
+ghost use Rattle.table.specs.Room.{Grows};
 
 // The number of the span of m places from place i on.
 pub fn span(i: usize, m: usize) -> usize
@@ -82,6 +83,42 @@ pub fn join(ws: &mut [u64], s: usize, from: &[u64], q: usize)
     ws[i + 1] = b;
     ws[i + 2] = c;
     ws[i + 3] = d;
+}
+
+// Row r into span s. Whether it is new there.
+pub fn mark(ws: &mut [u64], s: usize, r: usize) -> bool
+    requires { ⌜ (4 * s + 4 ≤ length (now ws)) × (r < 256) ⌝ }
+    ensures { λ new. ⌜ (now (ws .exit) ≡ setBit (now (ws .entry)) s r) × Grows new (now (ws .entry)) (now (ws .exit)) ⌝ }
+{
+    let w = 4 * s + r / 64;
+    let old = ws[w];
+    let x = old | (1u64 << (r % 64));
+    if x == old {
+        return false;
+    }
+    ws[w] = x;
+    true
+}
+
+// The rows of span q into span s too. Whether one is new there.
+pub fn merge(ws: &mut [u64], s: usize, q: usize) -> bool
+    requires { ⌜ (4 * s + 4 ≤ length (now ws)) × (4 * q + 4 ≤ length (now ws)) ⌝ }
+    ensures { λ new. ⌜ (now (ws .exit) ≡ joined (now (ws .entry)) s (now (ws .entry)) q) × Grows new (now (ws .entry)) (now (ws .exit)) ⌝ }
+{
+    let i = 4 * s;
+    let j = 4 * q;
+    let a = ws[i] | ws[j];
+    let b = ws[i + 1] | ws[j + 1];
+    let c = ws[i + 2] | ws[j + 2];
+    let d = ws[i + 3] | ws[j + 3];
+    if (a ^ ws[i]) | (b ^ ws[i + 1]) | (c ^ ws[i + 2]) | (d ^ ws[i + 3]) == 0 {
+        return false;
+    }
+    ws[i] = a;
+    ws[i + 1] = b;
+    ws[i + 2] = c;
+    ws[i + 3] = d;
+    true
 }
 
 // The first 7,564 words to zero: what solver and gate leave.
