@@ -4,10 +4,14 @@ pub mod Closure
 pub mod Derivation
 pub mod Gathered
 pub mod Encoding
-pub mod Sound
 pub mod Options
 pub mod Filling
 pub mod Opening
 pub mod Walking
 pub mod Budget
 pub mod Meaning
+pub mod Sound
+pub mod Obeys
+pub mod Positions
+pub mod WellFormed
+pub mod Reading

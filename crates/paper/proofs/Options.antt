@@ -10,8 +10,8 @@ use native.Mathlib.Omega.{arith}
 use lib.Dec.{eqb}
 use lib.ListN.{length}
 use Rattle.paper.specs.Tests.{anyBelow, anyOf, gather, Every}
-use Rattle.paper.specs.Rows.{Row, Empty, Range, Text, Alt, Seq, Star, Grammar, row, stretch}
-use Rattle.paper.specs.Decide.{nullable, reaches, Pattern, fits, Test, split, ownRow, level, upTo, accepts}
+use Rattle.paper.specs.Rows.{Row, Empty, Range, Text, Alt, Seq, Star, Grammar}
+use Rattle.paper.specs.Decide.{nullable, reaches, Pattern, Test, split, ownRow, level, upTo, accepts}
 use Rattle.paper.specs.Cuts.{Opt, Byte, Stretch, Split, Nil, splits, ownOpts, options}
 use Rattle.paper.specs.Gate.{holds, readUpTo, read}
 use Rattle.paper.proofs.Tests.{any-first, any-none, or-assoc, or-false, and-true}

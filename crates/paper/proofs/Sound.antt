@@ -1,4 +1,4 @@
--- A grammar as the sheet's rules allow it, and what the maker may suppose of it.
+-- A grammar as the sheet's rules allow it.
 -- Assumes nothing.
 use Prim.Native.Nat.{ℕ, _+_, _≤_, _<_}
 use lib.ListN.{length}
