@@ -48,7 +48,7 @@ same-test true b f g = sym (f refl)
 same-test false true f g = g refl
 same-test false false f g = refl
 
-any-suc : (n : ℕ) (f : ℕ → Bool) → anyBelow (suc n) f ≡ (f n || anyBelow n f)
+pub any-suc : (n : ℕ) (f : ℕ → Bool) → anyBelow (suc n) f ≡ (f n || anyBelow n f)
 unfolding anyBelow
 any-suc n f = go (f n) refl
   where
