@@ -1,0 +1,10 @@
+pub mod Ranges
+pub mod Counts
+pub mod Runs
+pub mod Alike
+pub mod Steps
+pub mod Known
+pub mod Climbs
+pub mod Advances
+pub mod Ends
+pub mod Seek

@@ -1,0 +1,26 @@
+-- A set of letters as an array holds it.
+use mathlib.Core.Path.{_≡_}
+use Prim.Native.Nat.{ℕ, _≤_, _<_}
+use mathlib.Core.Bool.{Bool, true, false, _&&_, _||_}
+use mathlib.Core.List.{List}
+use lib.Dec.{eqb, leb}
+use lib.ListN.{getD}
+
+-- b is a letter: the only way in which others look into the array
+unfoldable pub hasLetter : List ℕ → ℕ → Bool
+hasLetter of b = eqb (getD of b 0) 1
+
+-- no byte is a letter
+abbrev pub NoLetter : List ℕ → Type 0
+NoLetter of = (x : ℕ) → hasLetter of x ≡ false
+
+-- the letters of `of`, and those from low to high
+abbrev pub Joined : (of : List ℕ) (low high : ℕ) (r : List ℕ) → Type 0
+Joined of low high r = (x : ℕ) → hasLetter r x ≡ ((leb low x && leb x high) || hasLetter of x)
+
+-- b is the first letter at or after c, or 256
+pub record First (is : ℕ → Bool) (c b : ℕ) : Type 0 where
+  pub low : c ≤ b
+  pub high : b ≤ 256
+  pub hit : b < 256 → is b ≡ true
+  pub gap : (x : ℕ) → x < b → c ≤ x → is x ≡ false
