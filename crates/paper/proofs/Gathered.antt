@@ -1,22 +1,18 @@
--- Laws of lists that are made in rising order (`gather`, `tableFrom`), of what holds of each element, and of tests of all numbers below n.
+-- Laws of lists that are made in rising order: `gather`, `tableFrom`.
 -- Assumes nothing.
 use Prim.Native.Nat.{ℕ, zero, suc, _+_, _*_, _-_, _≤_, _<_}
 use mathlib.Core.Path.{_≡_, refl, sym, ap, _∙_}
-use mathlib.Core.Bool.{Bool, true, false, cond, true≢false}
-use mathlib.Core.Logic.{_⊎_, inl, inr}
-use mathlib.Core.List.{List, [], _∷_, _++_, append-assoc, append-nil}
+use mathlib.Core.Bool.{Bool, true, false, cond}
+use mathlib.Core.List.{List, [], _++_, append-assoc, append-nil}
 use native.Mathlib.Numerals.{add-one, sub-one}
 use native.Mathlib.Omega.{arith}
-use native.Mathlib.Nat.{not-suc-le-zero, eq-or-lt-of-le, le-of-suc-le-suc, add-zero, add-suc, suc-add, zero-add, suc-mul, suc-sub-suc}
+use native.Mathlib.Nat.{not-suc-le-zero, add-zero, add-suc, suc-add, zero-add, suc-mul, suc-sub-suc}
 use lib.ListN.{length, getD, length-append}
 use lib.Seq.{ext-getD}
-use Rattle.paper.specs.Tests.{allBelow, Every, tableFrom, gather}
+use Rattle.paper.specs.Tests.{Every, tableFrom, gather}
+use Rattle.paper.proofs.Tests.{every-append, table-length, table-at}
 
 -- ---- each element
-
-pub every-append : {A : Type 0} (P : A → Type 0) (s t : List A) → Every P s → Every P t → Every P (s ++ t)
-every-append P [] t x y = y
-every-append P (a ∷ s) t x y = (x .0, every-append P s t (x .1) y)
 
 pub every-gather : {A : Type 0} (P : A → Type 0) (i n : ℕ) (f : ℕ → List A) → ((j : ℕ) → i ≤ j → j < i + n → Every P (f j)) → Every P (gather i n f)
 unfolding gather
@@ -27,32 +23,12 @@ pub every-cond : {A : Type 0} (P : A → Type 0) (b : Bool) (s : List A) → (b 
 every-cond P true s h = h refl
 every-cond P false s h = tt
 
-pub every-map : {A : Type 0} (P Q : A → Type 0) → ((a : A) → P a → Q a) → (s : List A) → Every P s → Every Q s
-every-map P Q f [] x = tt
-every-map P Q f (a ∷ s) x = (f a (x .0), every-map P Q f s (x .1))
-
-pub every-at : {A : Type 0} (P : A → Type 0) (s : List A) → Every P s → (d : A) (k : ℕ) → k < length s → P (getD s k d)
-every-at P [] x d k l = absurd (not-suc-le-zero l)
-every-at P (a ∷ s) x d zero l = x .0
-every-at P (a ∷ s) x d (suc k) l = every-at P s (x .1) d k (le-of-suc-le-suc l)
-
 pub every-table : {A : Type 0} (P : A → Type 0) (i n : ℕ) (f : ℕ → A) → ((j : ℕ) → j < n → P (f (i + j))) → Every P (tableFrom i n f)
 unfolding tableFrom
 every-table P i zero f h = tt
 every-table P i (suc n) f h = (rw add-zero at (h 0 (omega arith)), every-table P (suc i) n f (λ j l. rw (suc-add, ← add-suc) (h (suc j) (omega arith))))
 
 -- ---- tables
-
-pub table-length : {A : Type 0} (i n : ℕ) (f : ℕ → A) → length (tableFrom i n f) ≡ n
-unfolding tableFrom
-table-length i zero f = refl
-table-length i (suc n) f = ap suc (table-length (suc i) n f)
-
-pub table-at : {A : Type 0} (i n : ℕ) (f : ℕ → A) (d : A) (k : ℕ) → k < n → getD (tableFrom i n f) k d ≡ f (i + k)
-unfolding tableFrom
-table-at i zero f d k l = absurd (not-suc-le-zero l)
-table-at i (suc n) f d zero l = rw add-zero
-table-at i (suc n) f d (suc k) l = table-at (suc i) n f d k (le-of-suc-le-suc l) ∙ rw (suc-add, add-suc)
 
 -- a list that is known at each place
 pub table-is : {A : Type 0} (n : ℕ) (f : ℕ → A) (d : A) (s : List A) → length s ≡ n → ((k : ℕ) → k < n → f k ≡ getD s k d) → tableFrom 0 n f ≡ s
@@ -91,20 +67,3 @@ unfolding gather
 gather-rises i zero n f h = omega arith
 gather-rises i (suc k) zero f h = absurd (not-suc-le-zero h)
 gather-rises i (suc k) (suc n) f h = rw (length-append, length-append) (omega (arith, gather-rises (suc i) k n f (omega arith)))
-
--- ---- each number below n
-
-pub all-intro : (n : ℕ) (f : ℕ → Bool) → ((k : ℕ) → k < n → f k ≡ true) → allBelow n f ≡ true
-unfolding allBelow
-all-intro zero f h = refl
-all-intro (suc n) f h = rw (h n (omega arith), allBelow) (all-intro n f (λ k l. h k (omega arith)))
-
-pub all-elim : (n : ℕ) (f : ℕ → Bool) → allBelow n f ≡ true → (k : ℕ) → k < n → f k ≡ true
-unfolding allBelow
-all-elim zero f e k l = absurd (not-suc-le-zero l)
-all-elim (suc n) f e k l = go (f n) refl e (eq-or-lt-of-le (le-of-suc-le-suc l)) (λ q u. all-elim n f q k u)
-  where
-    go : (b : Bool) → f n ≡ b → elim b [ true ↦ allBelow n f | false ↦ false ] ≡ true → (k ≡ n) ⊎ (k < n) → (allBelow n f ≡ true → k < n → f k ≡ true) → f k ≡ true
-    go true p q (inl m) ih = rw m p
-    go true p q (inr u) ih = ih q u
-    go false p q c ih = absurd (true≢false (sym q))

@@ -12,7 +12,8 @@ use Rattle.paper.specs.Tests.{Every}
 use Rattle.paper.specs.Rows.{Row, Empty, Range, Text, Alt, Seq, Star, Grammar, row}
 use Rattle.paper.specs.Decide.{nullable, reaches}
 use Rattle.paper.specs.Cuts.{Opt, Byte, Stretch, Split, Nil, splits, ownOpts, options, entry, group, groups, cutList}
-use Rattle.paper.proofs.Gathered.{every-gather, every-cond, every-map, gather-most}
+use Rattle.paper.proofs.Tests.{every-map}
+use Rattle.paper.proofs.Gathered.{every-gather, every-cond, gather-most}
 use Rattle.paper.proofs.Encoding.{length-entry, length-list}
 use Rattle.paper.proofs.Options.{Inside, InsideOpt, AllInside}
 use Rattle.paper.proofs.Sound.{SoundRow, Sound}

@@ -2,8 +2,8 @@
 -- Assumes nothing.
 use Prim.Native.Nat.{ℕ, zero, suc, _+_, _-_, _≤_, _<_}
 use mathlib.Core.Path.{_≡_, refl, sym, ap, _∙_, fun-ext}
-use mathlib.Core.Bool.{Bool, true, false, _&&_, _||_, cond}
-use mathlib.Core.List.{List, [], _∷_, _++_}
+use mathlib.Core.Bool.{Bool, true, false, _&&_, cond}
+use mathlib.Core.List.{List, [], _∷_}
 use native.Mathlib.Numerals.{one-add}
 use native.Mathlib.Nat.{zero-add, add-zero, add-suc, suc-add}
 use native.Mathlib.Omega.{arith}
@@ -14,22 +14,9 @@ use Rattle.paper.specs.Rows.{Row, Empty, Range, Text, Alt, Seq, Star, Gr
 use Rattle.paper.specs.Decide.{nullable, reaches, Pattern, Test, split, ownRow, level, upTo, accepts}
 use Rattle.paper.specs.Cuts.{Opt, Byte, Stretch, Split, Nil, splits, ownOpts, options}
 use Rattle.paper.specs.Gate.{holds, readUpTo, read}
-use Rattle.paper.proofs.Tests.{any-first, any-none, or-assoc, or-false, and-true}
+use Rattle.paper.proofs.Tests.{any-of-cons, any-of-append, any-first, any-none, or-false, and-true}
 
 -- ---- on the maker's options the reading is `accepts`
-
-any-of-cons : {A : Type 0} (f : A → Bool) (x : A) (s : List A) → anyOf f (x ∷ s) ≡ (f x || anyOf f s)
-unfolding anyOf
-any-of-cons f x s = go (f x) refl
-  where
-    go : (b : Bool) → f x ≡ b → anyOf f (x ∷ s) ≡ (f x || anyOf f s)
-    go true p = rw (p, anyOf)
-    go false p = rw (p, anyOf)
-
-any-of-append : {A : Type 0} (f : A → Bool) (s t : List A) → anyOf f (s ++ t) ≡ (anyOf f s || anyOf f t)
-unfolding anyOf
-any-of-append f [] t = refl
-any-of-append f (o ∷ s) t = rw (any-of-cons f o (s ++ t), any-of-cons f o s, any-of-append f s t) (sym (or-assoc (f o) _ _))
 
 any-of-gather : {A : Type 0} (f : A → Bool) (i n : ℕ) (F : ℕ → List A) → anyOf f (gather i n F) ≡ anyBelow n (λ j. anyOf f (F (i + j)))
 unfolding anyOf gather

@@ -14,8 +14,8 @@ use Rattle.paper.specs.Rows.{Grammar, Derives}
 use Rattle.paper.specs.Decide.{Pattern, exactly, accepts}
 use Rattle.paper.specs.Cuts.{Opt, Byte, Stretch, Split, Nil, options, optionBytes, groups, cutList}
 use Rattle.paper.specs.Gate.{nOf, rowsOf, rootOf, groupAt, optionCount, headAt, optionAt, optionFields, optionOk, headOk, entryOk, groupBegin, groupOk, trailerOk, wellFormed, optOf, optsOf, read, reading}
-use Rattle.paper.proofs.Tests.{and-intro}
-use Rattle.paper.proofs.Gathered.{all-intro, every-at, table-is}
+use Rattle.paper.proofs.Tests.{and-intro, all-intro, every-at}
+use Rattle.paper.proofs.Gathered.{table-is}
 use Rattle.paper.proofs.Derivation.{derives-iff}
 use Rattle.paper.proofs.Encoding.{Stands, stands-at, stands-head, stands-tail, stands-byte, stands-next, stands-u16, length-u16, length-list}
 use Rattle.paper.proofs.Options.{read-options, read-same}
@@ -71,7 +71,7 @@ module _ (g : Grammar) (s : Sound g) (root n : ℕ) (h : root < length (g .rows)
   option-at : (m r : ℕ) (v : m ≤ n) (w : r < length (g .rows)) (j : ℕ) → j < length (options g m r)
       → (optOf l (optionAt (headAt l m r) j) ≡ getD (options g m r) j Nil) × (optionOk l (length (g .text)) m (optionAt (headAt l m r) j) ≡ true)
   option-at m r v w j x =
-      let z = every-at _ (options g m r) (options-obey g s m r) Nil j x in
+      let z = every-at _ (options g m r) Nil (options-obey g s m r) j x in
       let b = head-option g s root n h u m r v w j x in
       rw (list-head g s root n h u m r v (omega arith))
       (option-read l _ _ _ m (s .short) (s .few) (getD (options g m r) j Nil) b z, option-passes l _ _ _ m (s .short) (s .few) (list-rows g s root n h u) (getD (options g m r) j Nil) b z)

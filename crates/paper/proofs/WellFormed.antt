@@ -14,8 +14,8 @@ use Rattle.paper.specs.Tests.{allBelow, anyOf, Every}
 use Rattle.paper.specs.Decide.{Pattern}
 use Rattle.paper.specs.Cuts.{Byte, Stretch, Split, Nil}
 use Rattle.paper.specs.Gate.{nOf, rowsOf, rootOf, trailerOf, groupAt, optionCount, headEnd, headAt, optionAt, optionFields, optionOk, headOk, entryOk, groupBegin, groupOk, trailerOk, wellFormed, optOf, optsOf, holds, read}
-use Rattle.paper.proofs.Tests.{and-left, and-right}
-use Rattle.paper.proofs.Gathered.{all-elim, every-table}
+use Rattle.paper.proofs.Tests.{and-left, and-right, all-elim}
+use Rattle.paper.proofs.Gathered.{every-table}
 use Rattle.paper.proofs.Options.{AllInside, read-level}
 use Rattle.paper.proofs.Obeys.{Obeys, all-obey-inside}
 
