@@ -1,12 +1,11 @@
 -- What the rules give of a record that keeps them: the runs of an assertion lie inside the parts.
 -- Assumes nothing.
-use Prim.Native.Nat.{ℕ, _+_, _*_, _<_, _≤_}
+use Prim.Native.Nat.{ℕ, _+_, _<_, _≤_}
 use mathlib.Core.Path.{_≡_}
 use mathlib.Core.List.{List}
 use mathlib.Core.Bool.{true}
 use lib.Dec.{leb, eqb}
 use borrow.Author.Tests.{eqb-true, leb-true}
-use native.Mathlib.Omega.{arith}
 use Rattle.paper.specs.Bytes.{u8At, u16At}
 use Rattle.paper.specs.Trailer.{countOf, recordAt}
 use Rattle.paper.specs.Records.{assertFields, assertOk, recordOk, tableOk, badTable}

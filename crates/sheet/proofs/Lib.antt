@@ -1,1 +1,6 @@
 pub mod Alone
+pub mod Rules
+pub mod Good
+pub mod Contents
+pub mod Reading
+pub mod Soundness

@@ -4,7 +4,6 @@ use Prim.Native.Nat.{ℕ, zero, suc, _+_, _*_, _-_, _<_, _≤_}
 use mathlib.Core.Path.{_≡_, refl}
 use mathlib.Core.List.{List}
 use mathlib.Core.Bool.{true}
-use lib.ListN.{length}
 use lib.Dec.{lit≤, eqb}
 use borrow.Author.Tests.{eqb-true}
 use native.Mathlib.Numerals.{add-one}

@@ -3,10 +3,10 @@ use mathlib.Core.Bool.{Bool}
 use lib.ListN.{length}
 use Rattle.trailer.proofs.Tables.{room, next}
 use Rattle.paper.specs.Records.{recordOk}
-use Rattle.paper.specs.Trailer.{size, offsetOf, countOf, recordAt}
+use Rattle.paper.specs.Trailer.{size, offsetOf, recordAt}
 use Rattle.trailer.proofs.Search.{Sought, start, more, stop, done}
-use Prim.Native.Nat.{ℕ, _+_, _*_, _-_, _≤_, _<_}
-use mathlib.Core.Path.{_≡_, refl, sym, ap, _∙_}
+use Prim.Native.Nat.{ℕ, _+_, _*_, _-_, _≤_}
+use mathlib.Core.Path.{_≡_}
 use native.Mathlib.Omega.{arith}
 use Rattle.records.proofs.bad_record.Statement.{statement}
 use Rattle.records.proofs.bad_record.Tie as tie

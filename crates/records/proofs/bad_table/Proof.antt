@@ -1,9 +1,9 @@
 use mathlib.Core.Bool.{true, false}
 use Rattle.paper.specs.Records.{tableOk}
 use Rattle.trailer.proofs.Search.{Sought, start, more, stop, done}
-use borrow.Author.Tests.{eq-eqb, ne-eqb, lt-ltb, le-ltb, le-leb, lt-leb}
-use Prim.Native.Nat.{ℕ, _+_, _*_, _-_, _≤_, _<_}
-use mathlib.Core.Path.{_≡_, refl, sym, ap, _∙_}
+use borrow.Author.Tests.{eq-eqb, ne-eqb}
+use Prim.Native.Nat.{_-_}
+use mathlib.Core.Path.{_≡_, sym, _∙_}
 use native.Mathlib.Omega.{arith}
 use Rattle.records.proofs.bad_table.Statement.{statement}
 use Rattle.records.proofs.bad_table.Tie as tie

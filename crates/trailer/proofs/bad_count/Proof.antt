@@ -1,7 +1,7 @@
 use Rattle.paper.specs.Trailer.{countOk}
 use Rattle.trailer.proofs.Search.{Sought, start, more, stop, done}
-use Prim.Native.Nat.{ℕ, _+_, _*_, _-_, _≤_, _<_}
-use mathlib.Core.Path.{_≡_, refl, sym, ap, _∙_}
+use Prim.Native.Nat.{_-_}
+use mathlib.Core.Path.{sym, _∙_}
 use native.Mathlib.Omega.{arith}
 use Rattle.trailer.proofs.bad_count.Statement.{statement}
 use Rattle.trailer.proofs.bad_count.Tie as tie

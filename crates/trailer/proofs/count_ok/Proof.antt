@@ -1,5 +1,5 @@
 use Rattle.paper.specs.Trailer.{countOk}
-use borrow.Author.Tests.{eq-eqb, ne-eqb, lt-ltb, le-ltb, le-leb, lt-leb}
+use borrow.Author.Tests.{le-leb, lt-leb}
 use borrow.Author.Needs.{needs}
 use Rattle.trailer.proofs.count_ok.Statement.{statement}
 use Rattle.trailer.proofs.count_ok.Tie as tie

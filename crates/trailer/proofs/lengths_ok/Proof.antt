@@ -1,4 +1,4 @@
-use borrow.Author.Tests.{eq-eqb, ne-eqb, lt-ltb, le-ltb, le-leb, lt-leb}
+use borrow.Author.Tests.{le-leb, lt-leb}
 use Rattle.paper.specs.Trailer.{lengthsOk}
 use borrow.Author.Needs.{needs}
 use Rattle.trailer.proofs.lengths_ok.Statement.{statement}

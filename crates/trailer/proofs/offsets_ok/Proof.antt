@@ -3,9 +3,9 @@ use mathlib.Core.Bool.{true, false}
 use Rattle.paper.specs.Trailer.{offsetOk, offsetsOk, startOf, base}
 use Rattle.trailer.proofs.Tables.{table-most}
 use Rattle.trailer.proofs.Search.{Sought, start, more, stop, done}
-use borrow.Author.Tests.{eq-eqb, ne-eqb, lt-ltb, le-ltb, le-leb, lt-leb}
-use Prim.Native.Nat.{ℕ, _+_, _*_, _-_, _≤_, _<_}
-use mathlib.Core.Path.{_≡_, refl, sym, ap, _∙_}
+use borrow.Author.Tests.{eq-eqb, ne-eqb}
+use Prim.Native.Nat.{_*_, _-_, _≤_}
+use mathlib.Core.Path.{_≡_, refl, sym, _∙_}
 use native.Mathlib.Omega.{arith}
 use Rattle.trailer.proofs.offsets_ok.Statement.{statement}
 use Rattle.trailer.proofs.offsets_ok.Tie as tie

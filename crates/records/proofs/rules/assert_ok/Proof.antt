@@ -1,6 +1,5 @@
 use Rattle.paper.specs.Records.{assertOk}
-use native.Mathlib.Omega.{arith}
-use borrow.Author.Tests.{eq-eqb, ne-eqb, lt-ltb, le-ltb, le-leb, lt-leb}
+use borrow.Author.Tests.{ne-eqb, le-leb, lt-leb}
 use borrow.Author.Needs.{needs}
 use Rattle.records.proofs.rules.assert_ok.Statement.{statement}
 use Rattle.records.proofs.rules.assert_ok.Tie as tie

@@ -1,4 +1,4 @@
-use mathlib.Core.Path.{_≡_, refl, sym, ap, _∙_}
+use mathlib.Core.Path.{refl}
 use Rattle.paper.specs.Records.{letterOk}
 use borrow.Author.Needs.{needs}
 use Rattle.records.proofs.rules.letter_ok.Statement.{statement}

@@ -1,6 +1,6 @@
 use Rattle.paper.specs.Records.{partFields}
 use native.Mathlib.Omega.{arith}
-use borrow.Author.Tests.{eq-eqb, ne-eqb, lt-ltb, le-ltb, le-leb, lt-leb}
+use borrow.Author.Tests.{ne-eqb}
 use borrow.Author.Needs.{needs}
 use Rattle.records.proofs.rules.part_fields.Statement.{statement}
 use Rattle.records.proofs.rules.part_fields.Tie as tie

@@ -1,4 +1,4 @@
-use borrow.Author.Tests.{eq-eqb, ne-eqb, lt-ltb, le-ltb, le-leb, lt-leb}
+use borrow.Author.Tests.{ne-eqb}
 use Rattle.paper.specs.Records.{rowOk}
 use borrow.Author.Needs.{needs}
 use Rattle.records.proofs.rules.row_ok.Statement.{statement}

@@ -1,8 +1,6 @@
 use Rattle.paper.specs.Records.{assertFits}
-use Rattle.records.proofs.Kept.{first-run, second-run, kept}
-use borrow.Author.Tests.{eq-eqb, ne-eqb, lt-ltb, le-ltb, le-leb, lt-leb, not-true, not-false}
-use Prim.Native.Nat.{ℕ, _+_, _*_, _-_, _≤_, _<_}
-use mathlib.Core.Path.{_≡_, refl, sym, ap, _∙_}
+use Rattle.records.proofs.Kept.{first-run, second-run}
+use borrow.Author.Tests.{ne-eqb, not-true, not-false}
 use native.Mathlib.Omega.{arith}
 use borrow.Author.Needs.{needs}
 use Rattle.records.proofs.terms.assert_fits.Statement.{statement}

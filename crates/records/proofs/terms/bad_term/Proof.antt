@@ -4,10 +4,9 @@ use Rattle.paper.specs.Trailer.{countOf}
 use lib.ListN.{length}
 use Rattle.paper.specs.Trailer.{offsetOf, recordAt}
 use Rattle.paper.specs.Records.{assertFits}
-use Rattle.records.proofs.Kept.{first-run, second-run, kept}
+use Rattle.records.proofs.Kept.{kept}
 use Rattle.trailer.proofs.Search.{Sought, start, more, stop, done}
 use Prim.Native.Nat.{ℕ, _+_, _*_, _-_, _≤_, _<_}
-use mathlib.Core.Path.{_≡_, refl, sym, ap, _∙_}
 use native.Mathlib.Omega.{arith}
 use Rattle.records.proofs.terms.bad_term.Statement.{statement}
 use Rattle.records.proofs.terms.bad_term.Tie as tie

@@ -1,8 +1,5 @@
 use Rattle.paper.specs.Records.{partLen}
-use borrow.Author.Tests.{eq-eqb, ne-eqb, lt-ltb, le-ltb, le-leb, lt-leb}
-use Prim.Native.Nat.{ℕ, _+_, _*_, _-_, _≤_, _<_}
-use mathlib.Core.Path.{_≡_, refl, sym, ap, _∙_}
-use native.Mathlib.Omega.{arith}
+use borrow.Author.Tests.{ne-eqb}
 use borrow.Author.Needs.{needs}
 use Rattle.records.proofs.terms.part_len.Statement.{statement}
 use Rattle.records.proofs.terms.part_len.Tie as tie

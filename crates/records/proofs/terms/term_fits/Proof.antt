@@ -1,6 +1,6 @@
 use lib.Dec.{leb}
-use Prim.Native.Nat.{ℕ, _+_, _*_, _-_, _≤_, _<_}
-use mathlib.Core.Path.{_≡_, refl, sym, ap, _∙_}
+use Prim.Native.Nat.{ℕ}
+use mathlib.Core.Path.{ap}
 use borrow.Author.Needs.{needs}
 use Rattle.records.proofs.terms.term_fits.Statement.{statement}
 use Rattle.records.proofs.terms.term_fits.Tie as tie

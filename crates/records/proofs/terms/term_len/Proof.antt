@@ -1,8 +1,7 @@
 use native.Mathlib.Numerals.{add-one}
 use Rattle.paper.specs.Records.{termLen}
-use borrow.Author.Tests.{eq-eqb, ne-eqb, lt-ltb, le-ltb, le-leb, lt-leb}
-use Prim.Native.Nat.{ℕ, _+_, _*_, _-_, _≤_, _<_}
-use mathlib.Core.Path.{_≡_, refl, sym, ap, _∙_}
+use Prim.Native.Nat.{_*_, _-_, _≤_}
+use mathlib.Core.Path.{_≡_, refl}
 use native.Mathlib.Omega.{arith}
 use Rattle.records.proofs.terms.term_len.Statement.{statement}
 use Rattle.records.proofs.terms.term_len.Tie as tie
