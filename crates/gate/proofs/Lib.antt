@@ -1,0 +1,4 @@
+pub mod Limits
+pub mod Each
+pub mod OptionLaws
+pub mod ListLaws
