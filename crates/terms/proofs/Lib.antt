@@ -1,0 +1,4 @@
+pub mod Pasting
+pub mod Showing
+pub mod Joining
+pub mod Adding
