@@ -1,0 +1,274 @@
+//! The checker of a problem sheet: refusals 10 to 17 in the paper's order, then the sheet parsed.
+
+/// Bytes of the trailer that ends every sheet.
+pub const TRAILER: usize = 32;
+/// The longest sheet: every table at its limit, and the trailer.
+pub const SHEET_LIMIT: usize = 3_376;
+/// The limit of the longest length, of a term and of a list's n.
+pub const LENGTH_LIMIT: usize = 60;
+pub const MARK: &[u8; 4] = b"PRM1";
+
+/// One of the five tables: the bytes of a record, and how many records there may be.
+pub struct Table {
+    pub record: usize,
+    pub fewest: usize,
+    pub most: usize,
+}
+
+const fn table(record: usize, fewest: usize, most: usize) -> Table {
+    Table { record, fewest, most }
+}
+
+/// Letters, text, rows, parts, assertions.
+pub const TABLES: [Table; 5] =
+    [table(2, 1, 8), table(1, 0, 1_024), table(6, 0, 256), table(6, 0, 64), table(12, 0, 32)];
+
+/// Bytes of the text table.
+#[derive(Clone, Copy, PartialEq, Eq, Debug)]
+pub struct Stretch {
+    pub from: usize,
+    pub bytes: usize,
+}
+
+/// Neighbouring parts, joined to a term.
+#[derive(Clone, Copy, PartialEq, Eq, Debug)]
+pub struct Run {
+    pub first: usize,
+    pub count: usize,
+}
+
+#[derive(Clone, Copy, PartialEq, Eq, Debug)]
+pub enum Row {
+    Empty,
+    Byte { low: u8, high: u8 },
+    Text(Stretch),
+    Or(usize, usize),
+    Then(usize, usize),
+    Star(usize),
+}
+
+#[derive(Clone, Copy, PartialEq, Eq, Debug)]
+pub enum Part {
+    Text(Stretch),
+    Whole,
+    Cut { position: usize, bytes: usize },
+}
+
+#[derive(Clone, Copy, PartialEq, Eq, Debug)]
+pub enum Claim {
+    Derived { row: usize },
+    Contains(Stretch),
+    Equals(Run),
+}
+
+#[derive(Clone, Copy, PartialEq, Eq, Debug)]
+pub struct Assertion {
+    pub denied: bool,
+    pub term: Run,
+    pub claim: Claim,
+}
+
+/// An accepted sheet.
+#[derive(Clone, PartialEq, Eq, Debug)]
+pub struct Sheet {
+    /// Each byte of the union once, rising.
+    pub letters: Vec<u8>,
+    pub text: Vec<u8>,
+    pub rows: Vec<Row>,
+    pub parts: Vec<Part>,
+    pub assertions: Vec<Assertion>,
+    pub shortest: usize,
+    pub longest: usize,
+}
+
+impl Sheet {
+    /// The sheet, or the number of its refusal.
+    pub fn check(bytes: &[u8]) -> Result<Sheet, u32> {
+        let trailer = Trailer::check(bytes)?;
+        let sheet = trailer.records(bytes).ok_or(16u32)?;
+        let fits = |a: &Assertion| a.terms().all(|term| sheet.term_length(term) <= LENGTH_LIMIT);
+        if sheet.assertions.iter().all(fits) {
+            Ok(sheet)
+        } else {
+            Err(17)
+        }
+    }
+
+    pub fn is_letter(&self, byte: u8) -> bool {
+        self.letters.binary_search(&byte).is_ok()
+    }
+
+    pub fn has_letter_between(&self, low: u8, high: u8) -> bool {
+        let next = self.letters.partition_point(|&letter| letter < low);
+        self.letters.get(next).is_some_and(|&letter| letter <= high)
+    }
+
+    pub fn stretch(&self, stretch: Stretch) -> &[u8] {
+        &self.text[stretch.from..stretch.from + stretch.bytes]
+    }
+
+    pub fn run(&self, run: Run) -> &[Part] {
+        &self.parts[run.first..run.first + run.count]
+    }
+
+    /// The term's bytes at the longest length, a cut counting its full b.
+    pub fn term_length(&self, run: Run) -> usize {
+        let length = |part: &Part| match *part {
+            Part::Text(stretch) => stretch.bytes,
+            Part::Whole => self.longest,
+            Part::Cut { bytes, .. } => bytes,
+        };
+        self.run(run).iter().map(length).sum()
+    }
+}
+
+impl Assertion {
+    /// Its term, and its second term if it compares two.
+    pub fn terms(&self) -> impl Iterator<Item = Run> {
+        let second = match self.claim {
+            Claim::Equals(run) => Some(run),
+            _ => None,
+        };
+        std::iter::once(self.term).chain(second)
+    }
+}
+
+/// The trailer's lengths, and where each table begins and how many records it has.
+struct Trailer {
+    shortest: usize,
+    longest: usize,
+    tables: [(usize, usize); 5],
+}
+
+impl Trailer {
+    /// Refusals 10 to 15.
+    fn check(bytes: &[u8]) -> Result<Trailer, u32> {
+        if bytes.len() < TRAILER {
+            return Err(10);
+        }
+        if bytes.len() > SHEET_LIMIT {
+            return Err(11);
+        }
+        let end = bytes.len() - TRAILER;
+        let trailer = Trailer::read(&bytes[end..]);
+        if &bytes[bytes.len() - 4..] != MARK {
+            return Err(12);
+        }
+        if read_u32(bytes, bytes.len() - 8) as usize != bytes.len() {
+            return Err(13);
+        }
+        if !trailer.within_limits() {
+            return Err(14);
+        }
+        if !trailer.end_to_end(end) {
+            return Err(15);
+        }
+        Ok(trailer)
+    }
+
+    fn read(bytes: &[u8]) -> Trailer {
+        Trailer {
+            shortest: read_u16(bytes, 0),
+            longest: read_u16(bytes, 2),
+            tables: std::array::from_fn(|i| {
+                (read_u16(bytes, 4 + 4 * i), read_u16(bytes, 6 + 4 * i))
+            }),
+        }
+    }
+
+    fn within_limits(&self) -> bool {
+        let counts = self.tables.iter().map(|&(_, count)| count);
+        let counted = counts.zip(&TABLES).all(|(count, t)| t.fewest <= count && count <= t.most);
+        counted && self.shortest <= self.longest && self.longest <= LENGTH_LIMIT
+    }
+
+    fn end_to_end(&self, end: usize) -> bool {
+        let mut at = 0;
+        for (&(offset, count), table) in self.tables.iter().zip(&TABLES) {
+            if offset != at {
+                return false;
+            }
+            at += count * table.record;
+        }
+        at == end
+    }
+
+    /// Every record parsed, or nothing if one breaks its rule.
+    fn records(&self, bytes: &[u8]) -> Option<Sheet> {
+        let table = |i: usize| {
+            let (offset, count) = self.tables[i];
+            let record = TABLES[i].record;
+            bytes[offset..offset + count * record].chunks_exact(record)
+        };
+        let [_, text, rows, parts, _] = self.tables.map(|(_, count)| count);
+        Some(Sheet {
+            letters: letters(table(0))?,
+            text: table(1).map(|record| record[0]).collect(),
+            rows: table(2).map(|record| row(record, text, rows)).collect::<Option<_>>()?,
+            parts: table(3).map(|record| part(record, text)).collect::<Option<_>>()?,
+            assertions: table(4)
+                .map(|record| assertion(record, text, rows, parts))
+                .collect::<Option<_>>()?,
+            shortest: self.shortest,
+            longest: self.longest,
+        })
+    }
+}
+
+fn letters<'a>(records: impl Iterator<Item = &'a [u8]>) -> Option<Vec<u8>> {
+    let mut union = [false; 256];
+    for record in records {
+        if record[0] > record[1] {
+            return None;
+        }
+        union[record[0] as usize..=record[1] as usize].fill(true);
+    }
+    Some((0..=255u8).filter(|&byte| union[byte as usize]).collect())
+}
+
+fn row(record: &[u8], text: usize, rows: usize) -> Option<Row> {
+    let (a, b) = (read_u16(record, 2), read_u16(record, 4));
+    let kind = if record[1] == 0 { record[0] } else { 0 };
+    match kind {
+        1 if a == 0 && b == 0 => Some(Row::Empty),
+        2 if a <= b && b <= 255 => Some(Row::Byte { low: a as u8, high: b as u8 }),
+        3 if a + b <= text => Some(Row::Text(Stretch { from: a, bytes: b })),
+        4 if a < rows && b < rows => Some(Row::Or(a, b)),
+        5 if a < rows && b < rows => Some(Row::Then(a, b)),
+        6 if a < rows && b == 0 => Some(Row::Star(a)),
+        _ => None,
+    }
+}
+
+fn part(record: &[u8], text: usize) -> Option<Part> {
+    let (a, b) = (read_u16(record, 2), read_u16(record, 4));
+    let kind = if record[1] == 0 { record[0] } else { 0 };
+    match kind {
+        1 if a + b <= text => Some(Part::Text(Stretch { from: a, bytes: b })),
+        2 if a == 0 && b == 0 => Some(Part::Whole),
+        3 => Some(Part::Cut { position: a, bytes: b }),
+        _ => None,
+    }
+}
+
+fn assertion(record: &[u8], text: usize, rows: usize, parts: usize) -> Option<Assertion> {
+    let [first, count, a, b, zero] = std::array::from_fn(|i| read_u16(record, 2 + 2 * i));
+    if record[1] > 1 || first + count > parts || zero != 0 {
+        return None;
+    }
+    let claim = match record[0] {
+        1 if a < rows && b == 0 => Claim::Derived { row: a },
+        2 if a + b <= text => Claim::Contains(Stretch { from: a, bytes: b }),
+        3 if a + b <= parts => Claim::Equals(Run { first: a, count: b }),
+        _ => return None,
+    };
+    Some(Assertion { denied: record[1] == 1, term: Run { first, count }, claim })
+}
+
+pub fn read_u16(bytes: &[u8], at: usize) -> usize {
+    u16::from_le_bytes([bytes[at], bytes[at + 1]]) as usize
+}
+
+pub fn read_u32(bytes: &[u8], at: usize) -> u32 {
+    u32::from_le_bytes([bytes[at], bytes[at + 1], bytes[at + 2], bytes[at + 3]])
+}

@@ -1,0 +1,111 @@
+//! The solver: the walk with its trials, and what the call says and leaves.
+
+use crate::open::open;
+use crate::sheet::Sheet;
+
+/// Words of workspace that the solver and the gate ask for and leave zero.
+pub const WORK: usize = 7_564;
+
+#[derive(Clone, Copy, PartialEq, Eq, Debug)]
+pub struct Solved {
+    pub number: u32,
+    pub length: u32,
+    pub trials: u64,
+}
+
+/// A whole walk: its full count, and the word if one was found.
+#[derive(Clone, PartialEq, Eq, Debug)]
+pub struct Walked {
+    pub trials: u64,
+    pub found: Option<Vec<u8>>,
+}
+
+pub fn solve(bytes: &[u8], budget: u64, work: &mut [u64], out: &mut [u8]) -> Solved {
+    solve_by(walk, bytes, budget, work, out)
+}
+
+/// The solver's call with a given walk, so that one long walk can serve many budgets.
+pub fn solve_by(
+    walk: impl FnOnce(&Sheet, u64) -> Option<Walked>,
+    bytes: &[u8],
+    budget: u64,
+    work: &mut [u64],
+    out: &mut [u8],
+) -> Solved {
+    let sheet = match check(bytes, work, out) {
+        Ok(sheet) => sheet,
+        Err(number) => return Solved { number, length: 0, trials: 0 },
+    };
+    let walked = walk(&sheet, budget);
+    work[..WORK].fill(0);
+    match walked {
+        None => Solved { number: 2, length: 0, trials: budget },
+        Some(Walked { trials, found: None }) => Solved { number: 1, length: 0, trials },
+        Some(Walked { trials, found: Some(word) }) => {
+            out[..word.len()].copy_from_slice(&word);
+            Solved { number: 0, length: word.len() as u32, trials }
+        }
+    }
+}
+
+/// Refusals 10 to 19.
+fn check(bytes: &[u8], work: &[u64], out: &[u8]) -> Result<Sheet, u32> {
+    let sheet = Sheet::check(bytes)?;
+    if work.len() < WORK {
+        return Err(18);
+    }
+    if out.len() < sheet.longest {
+        return Err(19);
+    }
+    Ok(sheet)
+}
+
+/// The walk, or nothing if its full count is above the budget.
+pub fn walk(sheet: &Sheet, budget: u64) -> Option<Walked> {
+    let mut walk = Walk { sheet, budget, trials: 0, prefix: Vec::new() };
+    for n in sheet.shortest..=sheet.longest {
+        match walk.visit(n) {
+            Visit::Found => return Some(Walked { trials: walk.trials, found: Some(walk.prefix) }),
+            Visit::Spent => return None,
+            Visit::Done => {}
+        }
+    }
+    Some(Walked { trials: walk.trials, found: None })
+}
+
+struct Walk<'a> {
+    sheet: &'a Sheet,
+    budget: u64,
+    trials: u64,
+    prefix: Vec<u8>,
+}
+
+enum Visit {
+    Found,
+    Done,
+    Spent,
+}
+
+impl Walk<'_> {
+    /// Judges the prefix in hand, then walks its extensions if it is open.
+    fn visit(&mut self, n: usize) -> Visit {
+        if self.trials == self.budget {
+            return Visit::Spent;
+        }
+        self.trials += 1;
+        if !open(self.sheet, &self.prefix, n) {
+            return Visit::Done;
+        }
+        if self.prefix.len() == n {
+            return Visit::Found;
+        }
+        for &letter in &self.sheet.letters {
+            self.prefix.push(letter);
+            match self.visit(n) {
+                Visit::Done => self.prefix.pop(),
+                end => return end,
+            };
+        }
+        Visit::Done
+    }
+}

@@ -1,0 +1,92 @@
+//! The second program against brute force, and the comparison itself: it must pass a program that
+//! answers the same and see each way of differing.
+
+use compare::check::check;
+use compare::make::Made;
+use compare::program::{Program, Second};
+use compare::selfcheck::selfcheck;
+use compare::solve::{Solved, WORK};
+
+#[test]
+fn second_program_agrees_with_brute_force() {
+    let agreed = selfcheck(7, 400).expect("no difference");
+    assert!(agreed.words > 300 && agreed.walks > 300 && agreed.derived > 300);
+}
+
+#[test]
+fn second_program_agrees_with_itself_and_meets_every_answer() {
+    let report = check(&Second, 7, 400, None).expect("no difference");
+    assert_eq!(report.cases, 400);
+    assert_eq!(report.tally.unmet(), []);
+}
+
+/// A program that is right but for one thing.
+#[derive(Clone, Copy, PartialEq)]
+enum Wrong {
+    Trials,
+    OutputAfterTheWord,
+    WordAfterTheWorkspace,
+    WorkspaceNotCleared,
+    RefusedWrites,
+    ListByte,
+    SpaceAfterTheList,
+    GateAlwaysYes,
+    GateWorkspace,
+}
+
+impl Program for Wrong {
+    fn solve(&self, sheet: &[u8], budget: u64, work: &mut [u64], out: &mut [u8]) -> Solved {
+        let mut solved = Second.solve(sheet, budget, work, out);
+        let after = solved.length as usize;
+        match self {
+            Wrong::Trials if solved.number == 1 => solved.trials += 1,
+            Wrong::OutputAfterTheWord if solved.number == 0 && after < out.len() => out[after] = 0,
+            Wrong::WordAfterTheWorkspace if work.len() > WORK => work[WORK] = 0,
+            Wrong::WorkspaceNotCleared if solved.number < 10 => work[WORK - 1] = 1,
+            Wrong::RefusedWrites if solved.number == 19 => work[0] = 0,
+            _ => {}
+        }
+        solved
+    }
+
+    fn make(&self, sheet: &[u8], row: u64, length: u64, list: &mut [u8]) -> Made {
+        let made = Second.make(sheet, row, length, list);
+        let after = made.length as usize;
+        match self {
+            Wrong::ListByte if made.number == 0 => list[after - 20] ^= 1,
+            Wrong::SpaceAfterTheList if made.number == 0 && after < list.len() => list[after] = 0,
+            _ => {}
+        }
+        made
+    }
+
+    fn gate(&self, list: &[u8], text: &[u8], word: &[u8], work: &mut [u64]) -> u32 {
+        let number = Second.gate(list, text, word, work);
+        match self {
+            Wrong::GateAlwaysYes if number == 1 => 0,
+            Wrong::GateWorkspace if number == 31 && !work.is_empty() => {
+                work[0] = 0;
+                number
+            }
+            _ => number,
+        }
+    }
+}
+
+#[test]
+fn every_way_of_differing_is_seen() {
+    let wrongs = [
+        Wrong::Trials,
+        Wrong::OutputAfterTheWord,
+        Wrong::WordAfterTheWorkspace,
+        Wrong::WorkspaceNotCleared,
+        Wrong::RefusedWrites,
+        Wrong::ListByte,
+        Wrong::SpaceAfterTheList,
+        Wrong::GateAlwaysYes,
+        Wrong::GateWorkspace,
+    ];
+    for (i, wrong) in wrongs.iter().enumerate() {
+        assert!(check(wrong, 7, 60, None).is_err(), "wrong program {i}");
+    }
+}

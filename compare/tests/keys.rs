@@ -1,0 +1,108 @@
+//! The paper's keys K1 to K12 and the limits listed after them.
+
+use compare::draft::Draft;
+use compare::gate::gate;
+use compare::keys::{brackets, keys, star_of_a};
+use compare::make::{make, Made};
+use compare::program::line;
+use compare::solve::{solve, WORK};
+
+fn answer(sheet: &[u8], budget: u64) -> String {
+    let (mut work, mut out) = ([7; WORK], [9; 60]);
+    let solved = solve(sheet, budget, &mut work, &mut out);
+    line(&solved, &out)
+}
+
+#[test]
+fn solver_keys() {
+    for key in keys() {
+        assert_eq!(answer(&key.sheet, key.budget), key.line, "{}", key.name);
+    }
+}
+
+#[test]
+fn k4_is_96_bytes() {
+    assert_eq!(brackets(4, 4).bytes().len(), 96);
+}
+
+#[test]
+fn k12() {
+    let expected: [&[u8]; 12] = [
+        &[0, 0, 0, 0, 0, 0, 0, 0],
+        &[1, 0, 0, 0, 1, 0, 0, 0, 4, 0, 0, 0, 0, 0, 0, 0],
+        &[0, 0, 1, 0, 1, 0, 0, 0, 1, 0, b'a', 0, b'a', 0, 0, 0],
+        &[1, 0, 1, 0, 1, 0, 0, 0, 1, 0, b'a', 0, b'a', 0, 0, 0],
+        &[0, 0, 2, 0, 0, 0, 0, 0],
+        &[1, 0, 2, 0, 1, 0, 0, 0, 3, 1, 0, 0, 1, 0, 0, 0],
+        &[0, 0, 0, 0, 24, 0, 0, 0, 56, 0, 0, 0],
+        &[1, 0],
+        &[2, 0],
+        &[2, 0, 0, 0],
+        &[108, 0, 0, 0],
+        b"CUT1",
+    ];
+    let mut list = [9; 110];
+    let made = make(&star_of_a().bytes(), 1, 2, &mut list);
+    assert_eq!(made, Made { number: 0, length: 108 });
+    assert_eq!(list[..108], expected.concat());
+    assert_eq!(list[108..], [9, 9]);
+    let word = |word: &[u8]| gate(&list[..108], &[], word, &mut [7; WORK]);
+    assert_eq!([word(b"aa"), word(b"ab"), word(b"a")], [0, 1, 31]);
+}
+
+fn one_letter(shortest: u16, longest: u16) -> Draft {
+    Draft { letters: vec![(b'a', b'a')], shortest, longest, ..Draft::default() }
+}
+
+#[test]
+fn longest_length() {
+    assert_eq!(
+        answer(&one_letter(60, 60).bytes(), 100),
+        format!("found 60 61 {}", "61".repeat(60))
+    );
+    assert_eq!(answer(&one_letter(60, 61).bytes(), 100), "refused 14");
+}
+
+#[test]
+fn longest_length_before_offset() {
+    let mut sheet = one_letter(0, 61).bytes();
+    let offset = sheet.len() - 28;
+    sheet[offset] = 1;
+    assert_eq!(answer(&sheet, 100), "refused 14");
+    let longest = sheet.len() - 30;
+    sheet[longest] = 60;
+    assert_eq!(answer(&sheet, 100), "refused 15");
+}
+
+#[test]
+fn longest_term() {
+    let term_of = |bytes: u16, second: bool| {
+        let mut draft = one_letter(0, 0);
+        draft.add_part(3, 0, bytes);
+        let (none, long) = ((0, 0), (0, 1));
+        let (first, other) = if second { (none, long) } else { (long, none) };
+        draft.assert((3, 1), first, other);
+        answer(&draft.bytes(), 100)
+    };
+    for second in [false, true] {
+        assert_eq!(term_of(60, second), "none 1");
+        assert_eq!(term_of(61, second), "refused 17");
+    }
+}
+
+#[test]
+fn workspace_and_output() {
+    let numbers = |draft: Draft, work: usize, out: usize| {
+        solve(&draft.bytes(), 100, &mut vec![7; work], &mut vec![9; out]).number
+    };
+    assert_eq!(numbers(one_letter(0, 1), 7_563, 0), 18);
+    assert_eq!(numbers(one_letter(0, 1), 7_564, 0), 19);
+    assert_eq!(numbers(one_letter(0, 1), 7_564, 1), 0);
+    assert_eq!(numbers(one_letter(0, 0), 7_564, 0), 0);
+}
+
+#[test]
+fn budget_0_is_spent() {
+    assert_eq!(answer(&one_letter(0, 0).bytes(), 0), "spent 0");
+    assert_eq!(answer(&one_letter(0, 0).bytes(), 1), "found 0 1 -");
+}
