@@ -2,3 +2,4 @@ pub mod Pasting
 pub mod Showing
 pub mod Joining
 pub mod Adding
+pub mod Meeting

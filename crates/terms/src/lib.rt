@@ -1,4 +1,6 @@
 // A term's places at a length, under a prefix.
+pub mod meets;
+
 ghost use mathlib.Core.Path.{_≡_};
 ghost use mathlib.Core.Bool.{true, not};
 ghost use mathlib.Core.List.{List, _++_};
