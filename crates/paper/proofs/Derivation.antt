@@ -46,7 +46,7 @@ none-keeps g o (Keeps.keep-star e) = let z : _≡_ {A = ℕ} 0 1 = cc in omega a
 pub derives-below : (g : Grammar) {r : ℕ} {w : List ℕ} → Derives g r w → r < length (g .rows)
 derives-below g {r} d = lt-of-not-le (λ h. none-derives g (outside g r h) d)
 
-keeps-below : (g : Grammar) {r q : ℕ} → Keeps g r q → r < length (g .rows)
+pub keeps-below : (g : Grammar) {r q : ℕ} → Keeps g r q → r < length (g .rows)
 keeps-below g {r} d = lt-of-not-le (λ h. none-keeps g (outside g r h) d)
 
 -- ---- nullable: the row derives the empty word

@@ -4,7 +4,7 @@ use mathlib.Core.Path.{_≡_, refl, sym, ap, _∙_}
 use mathlib.Core.Logic.{_≢_}
 use mathlib.Core.Bool.{true, false, true≢false}
 use mathlib.Core.List.{List, [], _∷_}
-use Prim.Native.Nat.{ℕ, zero, suc, _+_, _-_, _*_, _/_, _^_, _≤_, _<_}
+use Prim.Native.Nat.{ℕ, zero, suc, _+_, _*_, _/_, _^_, _≤_, _<_}
 use native.Mathlib.Nat.{not-suc-le-zero, le-of-suc-le-suc, le-of-lt}
 use native.Mathlib.Omega.{arith}
 use lib.ListN.{length, getD, set, length-set}
@@ -126,10 +126,11 @@ module _ (ws : List ℕ) (s q : ℕ) where
   unfolding joined
   merge-new ne h small =
       grows-by
-      (omega
-      (arith,
-      four-room ws s both0 (both 1) (both 2) (both 3) h (λ i. le-of-lt (small i)) (le-of-lt (or-lt 64 _ _ (small (4 * s)) (small (4 * q)))) (under 1) (under 2) (under 3),
-      sums both0 (both 1) (both 2) (both 3) (getD ws (4 * s) 0) (wordAt ws s 1) (wordAt ws s 2) (wordAt ws s 3) (or-le _ _) (or-le _ _) (or-le _ _) (or-le _ _) ne))
+      (omega (
+        arith,
+        four-room ws s both0 (both 1) (both 2) (both 3) h (λ i. le-of-lt (small i)) (le-of-lt (or-lt 64 _ _ (small (4 * s)) (small (4 * q)))) (under 1) (under 2) (under 3),
+        sums both0 (both 1) (both 2) (both 3) (getD ws (4 * s) 0) (wordAt ws s 1) (wordAt ws s 2) (wordAt ws s 3) (or-le _ _) (or-le _ _) (or-le _ _) (or-le _ _) ne,
+      ))
     where
       under : (k : ℕ) → both k ≤ 2 ^ 64
       under k = le-of-lt (or-lt 64 (wordAt ws s k) (wordAt ws q k) (small (4 * s + k)) (small (4 * q + k)))

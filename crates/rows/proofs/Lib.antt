@@ -1,0 +1,4 @@
+pub mod Passes
+pub mod ByKind
+pub mod NullLaws
+pub mod ReachLaws
