@@ -5,7 +5,7 @@ use native.Mathlib.Omega.{arith}
 use native.Mathlib.Numerals.{add-one}
 use mathlib.Core.Bool.{Bool, true, false, true≢false}
 use mathlib.Core.List.{List}
-use lib.ListN.{length, take}
+use lib.ListN.{length, take, length-set}
 use lib.Seq.{getD-set-other}
 use Rattle.walk.specs.declared.State.{State}
 use Rattle.walk.specs.Letters.{First}
@@ -27,6 +27,8 @@ module _ (is : ℕ → Bool) (slot : List ℕ) (budget n : ℕ) (q : State) (m :
     more = omega arith;
     most = omega arith;
     root = getD-set-other (q .begun) (q .prefix .len + 1) 0 (q .trials + 1) 0 (omega arith);
+    letters = simp length-set l;
+    notes = simp length-set v;
     tallies = wiped-length m (8 * q .prefix .len) 8;
     to = λ opens c a e x. rw add-one (down-step is opens n (q .prefix .len) (q .prefix .bytes) (q .begun) (q .trials) b (a .0) y (omega arith) (omega arith) e f g, knows-down is slot sm opens n (q .prefix .len) (q .prefix .bytes) m (wiped m (8 * q .prefix .len) 8) b (wiped-low m (8 * q .prefix .len) 8) (λ s z. wiped-row m (8 * q .prefix .len) 8 s z (omega arith)) (a .1));
     past = λ opens c a e x. absurd (true≢false (sym x ∙ fine));
@@ -43,6 +45,8 @@ module _ (is : ℕ → Bool) (slot : List ℕ) (budget n : ℕ) (q : State) (m :
         more = omega arith;
         most = k .most;
         root = k .root;
+        letters = k .letters;
+        notes = k .notes;
         tallies = k .tallies;
         to = λ opens c a e x. k .to opens n c (d opens a e) x;
         past = λ opens c a e x. k .past opens n c (d opens a e) x;

@@ -182,6 +182,8 @@ module _ (is : ℕ → Bool) (slot : List ℕ) (budget : ℕ) (p : State) (m₀ 
           more = s;
           most = o;
           root = i .root;
+          letters = u;
+          notes = v;
           tallies = i .tallies;
           to = λ opens n c d y. absurd (true≢false y);
           past = λ opens n c d y. rw k at (done-over is opens n (q .prefix .len) (set (q .prefix .bytes) (q .prefix .len - 1) b) (set (q .begun) (q .prefix .len) (q .trials)) (q .trials + x) budget
@@ -201,6 +203,8 @@ module _ (is : ℕ → Bool) (slot : List ℕ) (budget : ℕ) (p : State) (m₀ 
           more = i .more;
           most = i .most;
           root = getD-set-other (q .begun) (q .prefix .len) 0 (q .trials) 0 (omega arith) ∙ i .root;
+          letters = simp length-set u;
+          notes = simp length-set v;
           tallies = i .tallies;
           to = λ opens n c d x. next-at is slot (i .small) opens n (q .prefix .len) (q .prefix .bytes) (q .begun) m (q .trials) b (i .to opens n c d) pos (omega arith) (omega arith) f h;
           past = λ opens n c d x. absurd (true≢false (sym x ∙ i .fine));
@@ -234,6 +238,8 @@ module _ (is : ℕ → Bool) (slot : List ℕ) (budget : ℕ) (p : State) (m₀ 
     more = i .more;
     most = i .most;
     root = i .root;
+    letters = i .letters;
+    notes = i .notes;
     tallies = i .tallies;
     to = λ opens n c d x. landing-zero is slot (i .small) opens n (q .prefix .len) (q .prefix .bytes) (q .begun) m (q .trials) e (i .to opens n c d .0);
     past = λ opens n c d x. absurd (true≢false (sym x ∙ i .fine));

@@ -6,13 +6,13 @@ use native.Mathlib.Nat.{add-zero}
 use native.Mathlib.Numerals.{add-one}
 use mathlib.Core.Bool.{Bool, true}
 use mathlib.Core.List.{List, []}
-use borrow.Author.Tests.{lt-ltb, le-ltb}
 use lib.ListN.{take, getD}
 use Rattle.paper.specs.Walk.{Walked, found, none, plus, then, count, upTo, every, tree, walk}
-use Rattle.paper.specs.Answers.{Found, None, Spent, under}
+use Rattle.paper.specs.Answers.{Found, None, Spent, whole, under}
+use Rattle.paper.proofs.Budget.{count-tree, under-above, under-within}
 use Rattle.walk.specs.declared.State.{State}
 use Rattle.walk.specs.Progress.{At, Done, Knows, Judging, Landed, Over}
-use Rattle.walk.proofs.Runs.{plus-zero, plus-plus, count-plus, count-then, upTo-end, upTo-take, tree-word, count-tree}
+use Rattle.walk.proofs.Runs.{plus-zero, plus-plus, count-plus, count-then, upTo-end, upTo-take, tree-word}
 use Rattle.walk.proofs.Steps.{whole-found, whole-count}
 
 module _ (is : ℕ → Bool) (slot : List ℕ) (opens : ℕ → List ℕ → Bool) (lo hi : ℕ) where
@@ -52,11 +52,10 @@ module _ (is : ℕ → Bool) (slot : List ℕ) (opens : ℕ → List ℕ → Boo
 
   -- ---- the ends
   pub end-over : (budget n a : ℕ) → n ≤ hi → Length n a → budget < a + count (tree is opens n n []) → under budget (walk is opens lo hi) ≡ Spent budget
-  unfolding under
   end-over budget n a h e l =
       let m : budget < count (walk is opens lo hi) =
       rw (length-of n a h e, count-plus) (omega (arith, count-then (tree is opens n n []) (lengths (suc n)))) in
-      rw (lt-ltb _ _ m)
+      under-above budget (walk is opens lo hi) m
 
   -- a prefix about to be judged where the budget is used up
   pub judging-over : (budget n : ℕ) (q : State) (m : List ℕ) → Judging is slot opens n q m → budget ≤ q .trials → Over is slot opens n budget q
@@ -66,11 +65,10 @@ module _ (is : ℕ → Bool) (slot : List ℕ) (opens : ℕ → List ℕ → Boo
       omega (arith, whole-count is opens n (q .prefix .len) (q .prefix .bytes) (q .begun) (suc budget) (a .0 .parts) (omega arith))
 
   found-told : (n a t budget : ℕ) (v : List ℕ) → n ≤ hi → Length n a → a ≤ t → t ≤ budget → tree is opens n n [] ≡ found v (t - a) → under budget (walk is opens lo hi) ≡ Found v t
-  unfolding under
   found-told n a t budget v h e l m g =
       let z : a + (t - a) ≡ t = omega arith in
       let y : walk is opens lo hi ≡ found v t = length-of n a h e ∙ rw (g, z) in
-      rw (y, le-ltb budget t m)
+      under-within budget (walk is opens lo hi) (rw y m) ∙ ap whole y
 
   -- an open prefix of n bytes
   pub end-found : (budget n : ℕ) (q : State) (m : List ℕ) → n ≤ hi → q .prefix .len ≡ n → q .trials < budget → Length n (getD (q .begun) 0 0) → Judging is slot opens n q m
@@ -87,8 +85,7 @@ module _ (is : ℕ → Bool) (slot : List ℕ) (opens : ℕ → List ℕ → Boo
   -- the longest length is done
   pub end-none : (budget n a : ℕ) (q : State) (m : List ℕ) → n ≡ hi → q .prefix .len ≡ 0 → q .trials ≤ budget → getD (q .begun) 0 0 ≡ a → Length n a → Landed is slot opens n q m
       → under budget (walk is opens lo hi) ≡ None (q .trials)
-  unfolding under
   end-none budget n a q m h e l y g d =
       let f : Length (suc hi) (q .trials) = rw h at (landed-none n a q m (omega arith) e y g d) in
       let v : walk is opens lo hi ≡ none (q .trials) = f ∙ rw (upTo-end every (λ m. tree is opens m m []) (suc hi) (suc hi) (omega arith), add-zero) in
-      rw (v, le-ltb budget (q .trials) l)
+      under-within budget (walk is opens lo hi) (rw v l) ∙ ap whole v

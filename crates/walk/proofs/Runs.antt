@@ -5,7 +5,7 @@ use native.Mathlib.Nat.{add-assoc, zero-add}
 use native.Mathlib.Omega.{arith}
 use mathlib.Core.Bool.{Bool, true, false}
 use mathlib.Core.List.{List, [], _∷_, _++_}
-use Rattle.paper.specs.Walk.{Walked, found, none, plus, then, pick, count, run, upTo, tree}
+use Rattle.paper.specs.Walk.{Walked, found, none, plus, then, count, run, upTo, tree}
 
 pub plus-zero : (o : Walked) → plus 0 o ≡ o
 plus-zero (found w t) = ap (found w) (zero-add t)
@@ -71,17 +71,3 @@ module _ (is : ℕ → Bool) (opens : ℕ → List ℕ → Bool) where
   pub tree-word : (n : ℕ) (p : List ℕ) → opens n p ≡ true → tree is opens n 0 p ≡ found p 1
   unfolding tree
   tree-word n p e = rw e
-
-  -- at least one prefix is judged
-  pub count-tree : (n d : ℕ) (p : List ℕ) → 1 ≤ count (tree is opens n d p)
-  unfolding tree
-  count-tree n zero p = go (opens n p)
-    where
-      go : (b : Bool) → 1 ≤ count (pick b (found p 1) (none 1))
-      go true = omega arith
-      go false = omega arith
-  count-tree n (suc d) p = go (opens n p) (upTo is (λ b. tree is opens n d (p ++ (b ∷ []))) 256 0)
-    where
-      go : (b : Bool) (o : Walked) → 1 ≤ count (pick b (plus 1 o) (none 1))
-      go true o = omega (arith, count-plus 1 o)
-      go false o = omega arith

@@ -22,19 +22,21 @@ module _ (is : ℕ → Bool) (slot : List ℕ) (opens : ℕ → List ℕ → Boo
     pub top : hi ≤ 60
     pub within : q .prefix .len ≤ n
     pub most : q .trials ≤ budget
+    pub letters : length (q .prefix .bytes) ≡ 60
     pub notes : length (q .begun) ≡ 61
     pub tallies : 480 ≤ length m
     pub fine : q .over ≡ false
     pub sofar : Length is slot opens lo hi n (getD (q .begun) 0 0)
     pub at : Judging is slot opens n q m
 
-  pub seek-start : (q : State) (m : List ℕ) → lo ≤ hi → hi ≤ 60 → length (q .begun) ≡ 61 → 480 ≤ length m → q .prefix .len ≡ 0 → q .trials ≡ 0 → q .over ≡ false → getD (q .begun) 0 0 ≡ 0
+  pub seek-start : (q : State) (m : List ℕ) → lo ≤ hi → hi ≤ 60 → length (q .prefix .bytes) ≡ 60 → length (q .begun) ≡ 61 → 480 ≤ length m → q .prefix .len ≡ 0 → q .trials ≡ 0 → q .over ≡ false → getD (q .begun) 0 0 ≡ 0
       → Seeking lo q m
-  seek-start q m h t l v e f o g = record {
+  seek-start q m h t b l v e f o g = record {
     range = h;
     top = t;
     within = omega arith;
     most = omega arith;
+    letters = b;
     notes = l;
     tallies = v;
     fine = o;
@@ -77,8 +79,8 @@ module _ (is : ℕ → Bool) (slot : List ℕ) (opens : ℕ → List ℕ → Boo
       seek-none x e f = end-none is slot opens lo hi budget n (getD (q .begun) 0 0) r m′ f e (a .most) (a .root) (s .sofar) (a .to opens classes (s .at) o x)
 
       -- the next prefix
-      pub seek-next : r .over ≡ false → (r .prefix .len ≡ 0 → ⊥) → length (r .begun) ≡ 61 → Seeking n r m′
-      seek-next x e l =
+      pub seek-next : r .over ≡ false → (r .prefix .len ≡ 0 → ⊥) → Seeking n r m′
+      seek-next x e =
           let y = a .tallies in
           let z = s .tallies in
           record {
@@ -86,7 +88,8 @@ module _ (is : ℕ → Bool) (slot : List ℕ) (opens : ℕ → List ℕ → Boo
             top = s .top;
             within = a .within;
             most = a .most;
-            notes = l;
+            letters = a .letters;
+            notes = a .notes;
             tallies = omega arith;
             fine = x;
             sofar = rw (a .root) (s .sofar);
@@ -94,8 +97,9 @@ module _ (is : ℕ → Bool) (slot : List ℕ) (opens : ℕ → List ℕ → Boo
           }
 
       -- the next length
-      pub seek-length : r .over ≡ false → r .prefix .len ≡ 0 → (n ≡ hi → ⊥) → length (r .begun) ≡ 61 → Seeking (n + 1) (againOf r) m′
-      seek-length x e f l =
+      pub seek-length : r .over ≡ false → r .prefix .len ≡ 0 → (n ≡ hi → ⊥) → Seeking (n + 1) (againOf r) m′
+      seek-length x e f =
+          let l = a .notes in
           let y = a .tallies in
           let z = s .tallies in
           let k = s .range in
@@ -105,6 +109,7 @@ module _ (is : ℕ → Bool) (slot : List ℕ) (opens : ℕ → List ℕ → Boo
             top = s .top;
             within = omega arith;
             most = a .most;
+            letters = a .letters;
             notes = simp length-set l;
             tallies = omega arith;
             fine = x;

@@ -13,6 +13,8 @@ pub record Climbed (is : ℕ → Bool) (slot : List ℕ) (budget : ℕ) (q : Sta
   pub more : q .trials ≤ r .trials
   pub most : r .trials ≤ budget
   pub root : getD (r .begun) 0 0 ≡ getD (q .begun) 0 0
+  pub letters : length (r .prefix .bytes) ≡ 60
+  pub notes : length (r .begun) ≡ 61
   pub tallies : length m′ ≡ length m
   pub to : (opens : ℕ → List ℕ → Bool) (n : ℕ) → Classes opens slot → Finished is slot opens n q m → r .over ≡ false → Landed is slot opens n r m′
   pub past : (opens : ℕ → List ℕ → Bool) (n : ℕ) → Classes opens slot → Finished is slot opens n q m → r .over ≡ true → Over is slot opens n budget q
@@ -23,6 +25,8 @@ pub record Advanced (is : ℕ → Bool) (slot : List ℕ) (budget n : ℕ) (ok :
   pub more : q .trials < r .trials
   pub most : r .trials ≤ budget
   pub root : getD (r .begun) 0 0 ≡ getD (q .begun) 0 0
+  pub letters : length (r .prefix .bytes) ≡ 60
+  pub notes : length (r .begun) ≡ 61
   pub tallies : length m′ ≡ length m
   pub to : (opens : ℕ → List ℕ → Bool) → Classes opens slot → Judging is slot opens n q m → opens n (take (q .prefix .len) (q .prefix .bytes)) ≡ ok
       → r .over ≡ false → Landed is slot opens n r m′

@@ -63,6 +63,15 @@ pub struct Prefix {
 }
 
 impl Prefix {
+    pub fn empty() -> Self
+        ensures { λ r. ⌜ r .len ≡ 0 ⌝ }
+    {
+        Prefix {
+            bytes: [0u8; 60],
+            len: 0,
+        }
+    }
+
     // One letter longer.
     pub fn down(mut self, b: u8) -> Self
         requires { ⌜ self .len < 60 ⌝ }
@@ -116,11 +125,9 @@ impl State {
     pub fn start() -> Self
         ensures { λ r. ⌜ (r .prefix .len ≡ 0) × (r .trials ≡ 0) × (r .over ≡ false) × (getD (r .begun) 0 0 ≡ 0) ⌝ }
     {
+        let prefix = Prefix::empty();
         State {
-            prefix: Prefix {
-                bytes: [0u8; 60],
-                len: 0,
-            },
+            prefix,
             begun: [0u64; 61],
             trials: 0,
             over: false,
