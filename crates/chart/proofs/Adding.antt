@@ -14,10 +14,21 @@ use Rattle.paper.specs.Answers.{words}
 use Rattle.paper.proofs.Tests.{or-assoc, or-false, or-right}
 use Rattle.table.specs.Bits.{bitAt, setBit, wiped, copied, joined}
 use Rattle.table.proofs.Bits.{
-  length-set-bit, set-bit-same, set-bit-other, set-bit-apart, drop-set-bit,
-  length-wiped, wiped-apart, drop-wiped,
-  length-copied, copied-apart, drop-copied,
-  length-joined, joined-bit, joined-apart, drop-joined,
+  length-set-bit,
+  set-bit-same,
+  set-bit-other,
+  set-bit-apart,
+  drop-set-bit,
+  length-wiped,
+  wiped-apart,
+  drop-wiped,
+  length-copied,
+  copied-apart,
+  drop-copied,
+  length-joined,
+  joined-bit,
+  joined-apart,
+  drop-joined,
 }
 use Rattle.chart.specs.Steps.{Kept, Adds, only}
 

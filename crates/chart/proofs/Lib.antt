@@ -1,3 +1,8 @@
 pub mod Adding
 pub mod Splitting
 pub mod Carrying
+pub mod Reaching
+pub mod Owning
+pub mod Filling
+pub mod Rows
+pub mod Charting

@@ -53,10 +53,11 @@ loop-again : tie.Need-loop-again Inv-loop μ-loop
 loop-again c =
     let s = c .before .before .before .before .before .before .before .before .before .before .before .before in
     let a = s .args in
-    let l = c .before .before .before .before .before .before .before .before .loop in
-    (omega arith,
-    pairs-turn (a .lay .now) (a .left) (a .right) (a .sp) (l .j) (a .work .now) (l .work) _ (s .pre .4) (s .pre .5) (l .inv .1)
-    (c .before .before .before .before .both .result) (c .before .before .before .before .both .ensures) (c .before .before .put .ensures))
+    let l = c .before .before .before .before .before .before .before .before .loop in (
+      omega arith,
+      pairs-turn (a .lay .now) (a .left) (a .right) (a .sp) (l .j) (a .work .now) (l .work) _ (s .pre .4) (s .pre .5) (l .inv .1)
+          (c .before .before .before .before .both .result) (c .before .before .before .before .both .ensures) (c .before .before .put .ensures),
+    )
 
 same-length : tie.Need-same-length Inv-loop μ-loop
 same-length c = search needs

@@ -55,14 +55,15 @@ split-requires c κs =
     let m = s .args .m in
     let l = c .before .before .loop in
     let k = l .k in
-    let e : s .args .sp ≡ spanAt (s .args .i) (s .args .m) = s .pre .2 in
-    (s .pre .0,
-    omega (arith, span-lt i k (omega arith)),
-    omega (arith, right-is i m k (omega arith), span-lt (i + k) (m - k) (omega arith)),
-    omega (arith, span-lt i m (omega arith)),
-    (λ z. left-apart i m k (omega arith) (sym (l .inv .2) ∙ z ∙ e)),
-    (λ z. right-apart i m k (omega arith) (omega arith)),
-    omega arith)
+    let e : s .args .sp ≡ spanAt (s .args .i) (s .args .m) = s .pre .2 in (
+      s .pre .0,
+      omega (arith, span-lt i k (omega arith)),
+      omega (arith, right-is i m k (omega arith), span-lt (i + k) (m - k) (omega arith)),
+      omega (arith, span-lt i m (omega arith)),
+      (λ z. left-apart i m k (omega arith) (sym (l .inv .2) ∙ z ∙ e)),
+      (λ z. right-apart i m k (omega arith) (omega arith)),
+      omega arith,
+    )
 
 add-k : tie.Need-add-k Inv-loop μ-loop
 add-k c = omega arith
@@ -80,11 +81,12 @@ loop-again : tie.Need-loop-again Inv-loop μ-loop
 loop-again c =
     let s = c .before .before .before .before .before .before .before .before .before .before .before .before in
     let a = s .args in
-    let l = c .before .before .before .before .before .loop in
-    (omega arith,
-    omega arith,
-    omega (arith, left-next (a .i) (l .k)),
-    split-turn (a .lay .now) (a .i) (a .m) (a .sp) (l .left) (l .k) (a .work .now) (l .work) _ (s .pre .2) (l .inv .2) (l .inv .0) (omega arith) (l .inv .3) (c .before .before .split .ensures))
+    let l = c .before .before .before .before .before .loop in (
+      omega arith,
+      omega arith,
+      omega (arith, left-next (a .i) (l .k)),
+      split-turn (a .lay .now) (a .i) (a .m) (a .sp) (l .left) (l .k) (a .work .now) (l .work) _ (s .pre .2) (l .inv .2) (l .inv .0) (omega arith) (l .inv .3) (c .before .before .split .ensures),
+    )
 
 same-length : tie.Need-same-length Inv-loop μ-loop
 same-length c = search needs
