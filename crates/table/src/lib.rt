@@ -107,11 +107,15 @@ pub fn merge(ws: &mut [u64], s: usize, q: usize) -> bool
 {
     let i = 4 * s;
     let j = 4 * q;
-    let a = ws[i] | ws[j];
-    let b = ws[i + 1] | ws[j + 1];
-    let c = ws[i + 2] | ws[j + 2];
-    let d = ws[i + 3] | ws[j + 3];
-    if (a ^ ws[i]) | (b ^ ws[i + 1]) | (c ^ ws[i + 2]) | (d ^ ws[i + 3]) == 0 {
+    let w = ws[i];
+    let x = ws[i + 1];
+    let y = ws[i + 2];
+    let z = ws[i + 3];
+    let a = w | ws[j];
+    let b = x | ws[j + 1];
+    let c = y | ws[j + 2];
+    let d = z | ws[j + 3];
+    if (a ^ w) | (b ^ x) | (c ^ y) | (d ^ z) == 0 {
         return false;
     }
     ws[i] = a;

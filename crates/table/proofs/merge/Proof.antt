@@ -14,17 +14,44 @@ mul-i c = search needs
 mul-j : tie.Need-mul-j
 mul-j c = search needs
 
+mul-w : tie.Need-mul-w
+mul-w c = search needs
+
+slice-read-w : tie.Need-slice-read-w
+slice-read-w c = search needs
+
+add-x : tie.Need-add-x
+add-x c = search needs
+
+mul-x : tie.Need-mul-x
+mul-x c = search needs
+
+slice-read-x : tie.Need-slice-read-x
+slice-read-x c = search needs
+
+add-y : tie.Need-add-y
+add-y c = search needs
+
+mul-y : tie.Need-mul-y
+mul-y c = search needs
+
+slice-read-y : tie.Need-slice-read-y
+slice-read-y c = search needs
+
+add-z : tie.Need-add-z
+add-z c = search needs
+
+mul-z : tie.Need-mul-z
+mul-z c = search needs
+
+slice-read-z : tie.Need-slice-read-z
+slice-read-z c = search needs
+
 mul-a : tie.Need-mul-a
 mul-a c = search needs
 
 slice-read-a : tie.Need-slice-read-a
 slice-read-a c = search needs
-
-mul-a-2 : tie.Need-mul-a-2
-mul-a-2 c = search needs
-
-slice-read-a-2 : tie.Need-slice-read-a-2
-slice-read-a-2 c = search needs
 
 add-b : tie.Need-add-b
 add-b c = search needs
@@ -35,15 +62,6 @@ mul-b c = search needs
 slice-read-b : tie.Need-slice-read-b
 slice-read-b c = search needs
 
-add-b-2 : tie.Need-add-b-2
-add-b-2 c = search needs
-
-mul-b-2 : tie.Need-mul-b-2
-mul-b-2 c = search needs
-
-slice-read-b-2 : tie.Need-slice-read-b-2
-slice-read-b-2 c = search needs
-
 add-c : tie.Need-add-c
 add-c c = search needs
 
@@ -52,15 +70,6 @@ mul-c c = search needs
 
 slice-read-c : tie.Need-slice-read-c
 slice-read-c c = search needs
-
-add-c-2 : tie.Need-add-c-2
-add-c-2 c = search needs
-
-mul-c-2 : tie.Need-mul-c-2
-mul-c-2 c = search needs
-
-slice-read-c-2 : tie.Need-slice-read-c-2
-slice-read-c-2 c = search needs
 
 add-d : tie.Need-add-d
 add-d c = search needs
@@ -71,51 +80,9 @@ mul-d c = search needs
 slice-read-d : tie.Need-slice-read-d
 slice-read-d c = search needs
 
-add-d-2 : tie.Need-add-d-2
-add-d-2 c = search needs
-
-mul-d-2 : tie.Need-mul-d-2
-mul-d-2 c = search needs
-
-slice-read-d-2 : tie.Need-slice-read-d-2
-slice-read-d-2 c = search needs
-
-mul-if1 : tie.Need-mul-if1
-mul-if1 c = search needs
-
-slice-read-if1 : tie.Need-slice-read-if1
-slice-read-if1 c = search needs
-
-add-if1 : tie.Need-add-if1
-add-if1 c = search needs
-
-mul-if1-2 : tie.Need-mul-if1-2
-mul-if1-2 c = search needs
-
-slice-read-if1-2 : tie.Need-slice-read-if1-2
-slice-read-if1-2 c = search needs
-
-add-if1-2 : tie.Need-add-if1-2
-add-if1-2 c = search needs
-
-mul-if1-3 : tie.Need-mul-if1-3
-mul-if1-3 c = search needs
-
-slice-read-if1-3 : tie.Need-slice-read-if1-3
-slice-read-if1-3 c = search needs
-
-add-if1-3 : tie.Need-add-if1-3
-add-if1-3 c = search needs
-
-mul-if1-4 : tie.Need-mul-if1-4
-mul-if1-4 c = search needs
-
-slice-read-if1-4 : tie.Need-slice-read-if1-4
-slice-read-if1-4 c = search needs
-
 returns : tie.Need-returns
 returns c =
-    let a = c .before .before .before .before .before .before .before .before .before .before .before .before .before .args in
+    let a = c .before .before .before .before .before .before .before .before .before .args in
     merge-still (a .ws .now) (a .s) (a .q) (c .if1 .taken)
 
 mul-ws : tie.Need-mul-ws
@@ -157,8 +124,8 @@ same-length c = search needs
 returns-2 : tie.Need-returns-2
 unfolding joined fourAt
 returns-2 c =
-    let a = c .before .before .before .before .before .before .before .before .before .before .before .before .before .args in
-    (refl, merge-new (a .ws .now) (a .s) (a .q) (c .if1 .left) (c .before .before .before .before .before .before .before .before .before .before .before .before .before .pre .0) (λ i. c .before .slice-known12 .given i .fits))
+    let a = c .before .before .before .before .before .before .before .before .before .args in
+    (refl, merge-new (a .ws .now) (a .s) (a .q) (c .if1 .left) (c .before .before .before .before .before .before .before .before .before .pre .0) (λ i. c .before .slice-known8 .given i .fits))
 
 pub merge-spec : {M : Type 1} → statement M
 merge-spec =
@@ -166,39 +133,28 @@ merge-spec =
     (tie.spec
     mul-i
     mul-j
+    mul-w
+    slice-read-w
+    add-x
+    mul-x
+    slice-read-x
+    add-y
+    mul-y
+    slice-read-y
+    add-z
+    mul-z
+    slice-read-z
     mul-a
     slice-read-a
-    mul-a-2
-    slice-read-a-2
     add-b
     mul-b
     slice-read-b
-    add-b-2
-    mul-b-2
-    slice-read-b-2
     add-c
     mul-c
     slice-read-c
-    add-c-2
-    mul-c-2
-    slice-read-c-2
     add-d
     mul-d
     slice-read-d
-    add-d-2
-    mul-d-2
-    slice-read-d-2
-    mul-if1
-    slice-read-if1
-    add-if1
-    mul-if1-2
-    slice-read-if1-2
-    add-if1-2
-    mul-if1-3
-    slice-read-if1-3
-    add-if1-3
-    mul-if1-4
-    slice-read-if1-4
     returns
     mul-ws
     slice-write-ws
