@@ -6,8 +6,9 @@ ghost use lib.ListN.{length};
 ghost use lib.Dec.{leb};
 ghost use Rattle.paper.specs.Bytes.{u8At};
 ghost use Rattle.paper.specs.Trailer.{offsetOf, countOf};
-ghost use Rattle.paper.specs.Refusals.{tableRefusal, refusal};
+ghost use Rattle.paper.specs.Refusals.{contentRefusal, tableRefusal, refusal};
 ghost use Rattle.paper.specs.Sheet.{letter, textOf, sheetOf};
+ghost use Rattle.trailer.specs.Placed.{Placed};
 ghost use Rattle.sheet.specs.Verdict.{numberOf};
 ghost use Rattle.sheet.specs.Readers.{trailerOf, FieldsAt, AssertionFields, RowRead, PartRead, AssertionRead};
 
@@ -41,6 +42,20 @@ pub fn number(v: Verdict) -> u8
     }
 }
 
+// 16 and 17, of a sheet whose tables lie right.
+fn check_content(s: &[u8]) -> Verdict
+    requires { ⌜ (32 ≤ length (now s)) × Placed (now s) ⌝ }
+    ensures { λ r. ⌜ numberOf r ≡ contentRefusal (now (s .entry)) ⌝ }
+{
+    if records::bad_table(s) != 5 {
+        return Verdict::Record;
+    }
+    if records::terms::bad_term(s) != trailer::field(s, 11) {
+        return Verdict::Term;
+    }
+    Verdict::Accepted
+}
+
 // 14 to 17, of a sheet with its mark and its total.
 fn check_tables(s: &[u8]) -> Verdict
     requires { ⌜ 32 ≤ length (now s) ⌝ }
@@ -55,13 +70,7 @@ fn check_tables(s: &[u8]) -> Verdict
     if !trailer::offsets_ok(s) {
         return Verdict::Offsets;
     }
-    if records::bad_table(s) != 5 {
-        return Verdict::Record;
-    }
-    if records::terms::bad_term(s) != trailer::field(s, 11) {
-        return Verdict::Term;
-    }
-    Verdict::Accepted
+    check_content(s)
 }
 
 // The first fault of any bytes.

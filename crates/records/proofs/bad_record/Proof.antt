@@ -1,13 +1,14 @@
+-- `records::bad_record` meets its contract.
+use Prim.Native.Nat.{ℕ, _+_, _*_, _-_, _≤_}
 use mathlib.Core.List.{List}
 use mathlib.Core.Bool.{Bool}
+use mathlib.Core.Path.{_≡_}
 use lib.ListN.{length}
-use Rattle.trailer.proofs.Tables.{room, next}
+use native.Mathlib.Omega.{arith}
 use Rattle.paper.specs.Records.{recordOk}
 use Rattle.paper.specs.Trailer.{size, offsetOf, recordAt}
+use Rattle.trailer.proofs.Tables.{room, next}
 use Rattle.trailer.proofs.Search.{Sought, start, more, stop, done}
-use Prim.Native.Nat.{ℕ, _+_, _*_, _-_, _≤_}
-use mathlib.Core.Path.{_≡_}
-use native.Mathlib.Omega.{arith}
 use Rattle.records.proofs.bad_record.Statement.{statement}
 use Rattle.records.proofs.bad_record.Tie as tie
 

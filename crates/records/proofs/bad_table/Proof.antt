@@ -1,10 +1,11 @@
-use mathlib.Core.Bool.{true, false}
-use Rattle.paper.specs.Records.{tableOk}
-use Rattle.trailer.proofs.Search.{Sought, start, more, stop, done}
-use borrow.Author.Tests.{eq-eqb, ne-eqb}
+-- `records::bad_table` meets its contract.
 use Prim.Native.Nat.{_-_}
+use mathlib.Core.Bool.{true, false}
 use mathlib.Core.Path.{_≡_, sym, _∙_}
 use native.Mathlib.Omega.{arith}
+use borrow.Author.Tests.{eq-eqb, ne-eqb}
+use Rattle.paper.specs.Records.{tableOk}
+use Rattle.trailer.proofs.Search.{Sought, start, more, stop, done}
 use Rattle.records.proofs.bad_table.Statement.{statement}
 use Rattle.records.proofs.bad_table.Tie as tie
 

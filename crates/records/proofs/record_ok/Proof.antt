@@ -1,7 +1,8 @@
-use Rattle.paper.specs.Records.{recordOk}
+-- `records::record_ok` meets its contract.
 use mathlib.Core.Path.{_≡_}
 use native.Mathlib.Omega.{arith}
 use borrow.Author.Needs.{needs}
+use Rattle.paper.specs.Records.{recordOk}
 use Rattle.records.proofs.record_ok.Statement.{statement}
 use Rattle.records.proofs.record_ok.Tie as tie
 

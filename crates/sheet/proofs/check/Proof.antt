@@ -1,6 +1,7 @@
-use Rattle.paper.specs.Refusals.{refusal}
+-- `sheet::check` meets its contract.
 use borrow.Author.Tests.{le-leb, lt-leb, not-true, not-false}
 use borrow.Author.Needs.{needs}
+use Rattle.paper.specs.Refusals.{refusal}
 use Rattle.sheet.proofs.check.Statement.{statement}
 use Rattle.sheet.proofs.check.Tie as tie
 

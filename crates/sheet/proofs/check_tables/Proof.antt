@@ -1,9 +1,10 @@
-use Rattle.paper.specs.Refusals.{tableRefusal, contentRefusal}
-use Rattle.trailer.proofs.Tables.{placed}
-use borrow.Author.Tests.{eq-eqb, ne-eqb, not-true, not-false}
+-- `sheet::check_tables` meets its contract.
 use mathlib.Core.Path.{sym, _∙_}
 use native.Mathlib.Omega.{arith}
 use borrow.Author.Needs.{needs}
+use borrow.Author.Tests.{ne-eqb, not-true, not-false}
+use Rattle.paper.specs.Refusals.{tableRefusal}
+use Rattle.trailer.proofs.Tables.{placed}
 use Rattle.sheet.proofs.check_tables.Statement.{statement}
 use Rattle.sheet.proofs.check_tables.Tie as tie
 
@@ -11,43 +12,35 @@ bad-count-requires : tie.Need-bad-count-requires
 bad-count-requires c κs = search needs
 
 returns : tie.Need-returns
-unfolding tableRefusal contentRefusal
+unfolding tableRefusal
 returns c = rw (← c .before .bad-count .ensures, ne-eqb _ _ (c .if1 .taken))
 
 lengths-ok-requires : tie.Need-lengths-ok-requires
 lengths-ok-requires c κs = search needs
 
 returns-2 : tie.Need-returns-2
-unfolding tableRefusal contentRefusal
-returns-2 c = rw (← c .before .before .before .bad-count .ensures, c .before .before .if1 .left, ← c .before .lengths-ok .ensures, not-true (c .before .lengths-ok .result) (c .if2 .taken))
+unfolding tableRefusal
+returns-2 c =
+    rw (← c .before .before .before .bad-count .ensures, c .before .before .if1 .left, ← c .before .lengths-ok .ensures, not-true (c .before .lengths-ok .result) (c .if2 .taken))
 
 offsets-ok-requires : tie.Need-offsets-ok-requires
 offsets-ok-requires c κs = search needs
 
 returns-3 : tie.Need-returns-3
-unfolding tableRefusal contentRefusal
-returns-3 c = rw (← c .before .before .before .before .before .bad-count .ensures, c .before .before .before .before .if1 .left, ← c .before .before .before .lengths-ok .ensures, not-false (c .before .before .before .lengths-ok .result) (c .before .before .if2 .left), ← c .before .offsets-ok .ensures, not-true (c .before .offsets-ok .result) (c .if3 .taken))
+unfolding tableRefusal
+returns-3 c =
+    let l = c .before .before .before in
+    rw (← l .before .before .bad-count .ensures, l .before .if1 .left, ← l .lengths-ok .ensures, not-false (l .lengths-ok .result) (c .before .before .if2 .left), ← c .before .offsets-ok .ensures, not-true (c .before .offsets-ok .result) (c .if3 .taken))
 
-bad-table-requires : tie.Need-bad-table-requires
-bad-table-requires c κs = (omega arith, placed _ (sym (c .before .offsets-ok .ensures) ∙ not-false _ (c .if3 .left)))
+check-content-requires : tie.Need-check-content-requires
+check-content-requires c κs = (omega arith, placed _ (sym (c .before .offsets-ok .ensures) ∙ not-false _ (c .if3 .left)))
 
 returns-4 : tie.Need-returns-4
-unfolding tableRefusal contentRefusal
-returns-4 c = rw (← c .before .before .before .before .before .before .before .bad-count .ensures, c .before .before .before .before .before .before .if1 .left, ← c .before .before .before .before .before .lengths-ok .ensures, not-false (c .before .before .before .before .before .lengths-ok .result) (c .before .before .before .before .if2 .left), ← c .before .before .before .offsets-ok .ensures, not-false (c .before .before .before .offsets-ok .result) (c .before .before .if3 .left), ← c .before .bad-table .ensures, ne-eqb _ _ (c .if4 .taken))
-
-bad-term-requires : tie.Need-bad-term-requires
-bad-term-requires c κs = (omega arith, placed _ (sym (c .before .before .before .offsets-ok .ensures) ∙ not-false _ (c .before .before .if3 .left)), sym (c .before .bad-table .ensures) ∙ c .if4 .left)
-
-field-requires : tie.Need-field-requires
-field-requires c κs = search needs
-
-returns-5 : tie.Need-returns-5
-unfolding tableRefusal contentRefusal
-returns-5 c = rw (← c .before .before .before .before .before .before .before .before .before .before .bad-count .ensures, c .before .before .before .before .before .before .before .before .before .if1 .left, ← c .before .before .before .before .before .before .before .before .lengths-ok .ensures, not-false (c .before .before .before .before .before .before .before .before .lengths-ok .result) (c .before .before .before .before .before .before .before .if2 .left), ← c .before .before .before .before .before .before .offsets-ok .ensures, not-false (c .before .before .before .before .before .before .offsets-ok .result) (c .before .before .before .before .before .if3 .left), ← c .before .before .before .before .bad-table .ensures, c .before .before .before .if4 .left, ← c .before .before .bad-term .ensures, ← c .before .field .ensures .0, ne-eqb _ _ (c .if5 .taken))
-
-returns-6 : tie.Need-returns-6
-unfolding tableRefusal contentRefusal
-returns-6 c = rw (← c .before .before .before .before .before .before .before .before .before .before .bad-count .ensures, c .before .before .before .before .before .before .before .before .before .if1 .left, ← c .before .before .before .before .before .before .before .before .lengths-ok .ensures, not-false (c .before .before .before .before .before .before .before .before .lengths-ok .result) (c .before .before .before .before .before .before .before .if2 .left), ← c .before .before .before .before .before .before .offsets-ok .ensures, not-false (c .before .before .before .before .before .before .offsets-ok .result) (c .before .before .before .before .before .if3 .left), ← c .before .before .before .before .bad-table .ensures, c .before .before .before .if4 .left, ← c .before .before .bad-term .ensures, ← c .before .field .ensures .0, eq-eqb _ _ (c .if5 .left))
+unfolding tableRefusal
+returns-4 c =
+    let l = c .before .before .before .before in
+    rw (← l .before .before .bad-count .ensures, l .before .if1 .left, ← l .lengths-ok .ensures, not-false (l .lengths-ok .result) (c .before .before .before .if2 .left), ← c .before .before .offsets-ok .ensures, not-false (c .before .before .offsets-ok .result) (c .before .if3 .left))
+    (c .check-content .ensures)
 
 pub check-tables-spec : {M : Type 1} → statement M
 check-tables-spec =
@@ -59,9 +52,5 @@ check-tables-spec =
     returns-2
     offsets-ok-requires
     returns-3
-    bad-table-requires
-    returns-4
-    bad-term-requires
-    field-requires
-    returns-5
-    returns-6)
+    check-content-requires
+    returns-4)

@@ -1,8 +1,9 @@
+-- `sheet::is_letter` meets its contract.
 use Prim.Native.Nat.{ℕ, _-_, _≤_}
 use mathlib.Core.Path.{_≡_, sym, ap, _∙_}
 use mathlib.Core.Bool.{true, false}
-use native.Mathlib.Omega.{arith}
 use lib.ListN.{length}
+use native.Mathlib.Omega.{arith}
 use Rattle.paper.specs.Tests.{anyBelow}
 use Rattle.paper.specs.Trailer.{countOf}
 use Rattle.paper.proofs.Tests.{any-none, any-intro}

@@ -1,6 +1,7 @@
+-- `sheet::part_at` meets its contract.
 use Prim.Native.Nat.{_+_, _*_, _≤_}
-use native.Mathlib.Omega.{arith}
 use lib.ListN.{length}
+use native.Mathlib.Omega.{arith}
 use Rattle.sheet.proofs.Good.{good}
 use Rattle.sheet.proofs.Reading.{part-read}
 use Rattle.sheet.proofs.part_at.Statement.{statement}

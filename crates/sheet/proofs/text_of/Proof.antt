@@ -1,10 +1,11 @@
-use native.Mathlib.Nat.{add-sub-cancel-left}
+-- `sheet::text_of` meets its contract.
 use Prim.Native.Nat.{_≤_}
-use native.Mathlib.Omega.{arith}
 use lib.ListN.{length}
+use native.Mathlib.Nat.{add-sub-cancel-left}
+use native.Mathlib.Omega.{arith}
+use borrow.Author.Needs.{needs}
 use Rattle.paper.specs.Sheet.{textOf}
 use Rattle.sheet.proofs.Good.{good}
-use borrow.Author.Needs.{needs}
 use Rattle.sheet.proofs.text_of.Statement.{statement}
 use Rattle.sheet.proofs.text_of.Tie as tie
 

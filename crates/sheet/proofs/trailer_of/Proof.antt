@@ -1,5 +1,6 @@
-use Rattle.sheet.proofs.Good.{good}
+-- `sheet::trailer_of` meets its contract.
 use borrow.Author.Needs.{needs}
+use Rattle.sheet.proofs.Good.{good}
 use Rattle.sheet.proofs.trailer_of.Statement.{statement}
 use Rattle.sheet.proofs.trailer_of.Tie as tie
 

@@ -1,8 +1,9 @@
-use Rattle.paper.specs.Trailer.{countOk}
-use Rattle.trailer.proofs.Search.{Sought, start, more, stop, done}
+-- `trailer::bad_count` meets its contract.
 use Prim.Native.Nat.{_-_}
 use mathlib.Core.Path.{sym, _∙_}
 use native.Mathlib.Omega.{arith}
+use Rattle.paper.specs.Trailer.{countOk}
+use Rattle.trailer.proofs.Search.{Sought, start, more, stop, done}
 use Rattle.trailer.proofs.bad_count.Statement.{statement}
 use Rattle.trailer.proofs.bad_count.Tie as tie
 

@@ -1,6 +1,7 @@
-use Rattle.paper.specs.Trailer.{countOk}
+-- `trailer::count_ok` meets its contract.
 use borrow.Author.Tests.{le-leb, lt-leb}
 use borrow.Author.Needs.{needs}
+use Rattle.paper.specs.Trailer.{countOk}
 use Rattle.trailer.proofs.count_ok.Statement.{statement}
 use Rattle.trailer.proofs.count_ok.Tie as tie
 

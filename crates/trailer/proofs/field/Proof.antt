@@ -1,5 +1,6 @@
-use Rattle.paper.specs.Trailer.{field, base}
+-- `trailer::field` meets its contract.
 use borrow.Author.Needs.{needs}
+use Rattle.paper.specs.Trailer.{field, base}
 use Rattle.trailer.proofs.field.Statement.{statement}
 use Rattle.trailer.proofs.field.Tie as tie
 

@@ -1,6 +1,7 @@
+-- `trailer::lengths_ok` meets its contract.
 use borrow.Author.Tests.{le-leb, lt-leb}
-use Rattle.paper.specs.Trailer.{lengthsOk}
 use borrow.Author.Needs.{needs}
+use Rattle.paper.specs.Trailer.{lengthsOk}
 use Rattle.trailer.proofs.lengths_ok.Statement.{statement}
 use Rattle.trailer.proofs.lengths_ok.Tie as tie
 

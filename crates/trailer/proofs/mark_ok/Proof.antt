@@ -1,7 +1,8 @@
-use Rattle.paper.specs.Bytes.{markAt}
-use Rattle.paper.specs.Trailer.{markOk}
+-- `trailer::mark_ok` meets its contract.
 use borrow.Author.Tests.{ne-eqb}
 use borrow.Author.Needs.{needs}
+use Rattle.paper.specs.Bytes.{markAt}
+use Rattle.paper.specs.Trailer.{markOk}
 use Rattle.trailer.proofs.mark_ok.Statement.{statement}
 use Rattle.trailer.proofs.mark_ok.Tie as tie
 

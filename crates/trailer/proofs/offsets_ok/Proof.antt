@@ -1,12 +1,13 @@
-use native.Mathlib.Numerals.{add-one}
+-- `trailer::offsets_ok` meets its contract.
+use Prim.Native.Nat.{_*_, _-_, _≤_}
 use mathlib.Core.Bool.{true, false}
+use mathlib.Core.Path.{_≡_, refl, sym, _∙_}
+use native.Mathlib.Numerals.{add-one}
+use native.Mathlib.Omega.{arith}
+use borrow.Author.Tests.{eq-eqb, ne-eqb}
 use Rattle.paper.specs.Trailer.{offsetOk, offsetsOk, startOf, base}
 use Rattle.trailer.proofs.Tables.{table-most}
 use Rattle.trailer.proofs.Search.{Sought, start, more, stop, done}
-use borrow.Author.Tests.{eq-eqb, ne-eqb}
-use Prim.Native.Nat.{_*_, _-_, _≤_}
-use mathlib.Core.Path.{_≡_, refl, sym, _∙_}
-use native.Mathlib.Omega.{arith}
 use Rattle.trailer.proofs.offsets_ok.Statement.{statement}
 use Rattle.trailer.proofs.offsets_ok.Tie as tie
 

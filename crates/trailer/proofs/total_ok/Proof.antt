@@ -1,6 +1,7 @@
+-- `trailer::total_ok` meets its contract.
+use borrow.Author.Needs.{needs}
 use Rattle.paper.specs.Bytes.{u32At}
 use Rattle.paper.specs.Trailer.{totalOk}
-use borrow.Author.Needs.{needs}
 use Rattle.trailer.proofs.total_ok.Statement.{statement}
 use Rattle.trailer.proofs.total_ok.Tie as tie
 

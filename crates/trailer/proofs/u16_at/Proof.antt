@@ -1,5 +1,6 @@
-use Rattle.paper.specs.Bytes.{u16At}
+-- `trailer::u16_at` meets its contract.
 use borrow.Author.Needs.{needs}
+use Rattle.paper.specs.Bytes.{u16At}
 use Rattle.trailer.proofs.u16_at.Statement.{statement}
 use Rattle.trailer.proofs.u16_at.Tie as tie
 

@@ -1,6 +1,7 @@
+-- `records::rules::assert_fields` meets its contract.
+use native.Mathlib.Omega.{arith}
 use borrow.Author.Needs.{needs}
 use borrow.Author.Tests.{ne-eqb, lt-ltb, le-ltb}
-use native.Mathlib.Omega.{arith}
 use Rattle.paper.specs.Records.{assertFields}
 use Rattle.records.proofs.rules.assert_fields.Statement.{statement}
 use Rattle.records.proofs.rules.assert_fields.Tie as tie

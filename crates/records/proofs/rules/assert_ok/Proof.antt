@@ -1,6 +1,7 @@
-use Rattle.paper.specs.Records.{assertOk}
+-- `records::rules::assert_ok` meets its contract.
 use borrow.Author.Tests.{ne-eqb, le-leb, lt-leb}
 use borrow.Author.Needs.{needs}
+use Rattle.paper.specs.Records.{assertOk}
 use Rattle.records.proofs.rules.assert_ok.Statement.{statement}
 use Rattle.records.proofs.rules.assert_ok.Tie as tie
 

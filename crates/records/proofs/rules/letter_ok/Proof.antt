@@ -1,6 +1,7 @@
+-- `records::rules::letter_ok` meets its contract.
 use mathlib.Core.Path.{refl}
-use Rattle.paper.specs.Records.{letterOk}
 use borrow.Author.Needs.{needs}
+use Rattle.paper.specs.Records.{letterOk}
 use Rattle.records.proofs.rules.letter_ok.Statement.{statement}
 use Rattle.records.proofs.rules.letter_ok.Tie as tie
 

@@ -1,7 +1,8 @@
-use Rattle.paper.specs.Records.{partFields}
+-- `records::rules::part_fields` meets its contract.
 use native.Mathlib.Omega.{arith}
 use borrow.Author.Tests.{ne-eqb}
 use borrow.Author.Needs.{needs}
+use Rattle.paper.specs.Records.{partFields}
 use Rattle.records.proofs.rules.part_fields.Statement.{statement}
 use Rattle.records.proofs.rules.part_fields.Tie as tie
 

@@ -1,6 +1,7 @@
+-- `records::rules::part_ok` meets its contract.
 use borrow.Author.Tests.{ne-eqb}
-use Rattle.paper.specs.Records.{partOk}
 use borrow.Author.Needs.{needs}
+use Rattle.paper.specs.Records.{partOk}
 use Rattle.records.proofs.rules.part_ok.Statement.{statement}
 use Rattle.records.proofs.rules.part_ok.Tie as tie
 

@@ -1,10 +1,9 @@
--- `sheet::row_fields` meets its contract: in each arm the kind is known, and the rule computes.
--- Assumes nothing.
-use borrow.Author.Needs.{needs}
-use borrow.Author.Tests.{ne-eqb, lt-ltb, le-ltb, le-leb, lt-leb}
-use native.Mathlib.Omega.{arith}
+-- `records::rules::row_fields` meets its contract.
 use Prim.Native.Nat.{_≤_}
 use mathlib.Core.Path.{_≡_}
+use native.Mathlib.Omega.{arith}
+use borrow.Author.Needs.{needs}
+use borrow.Author.Tests.{ne-eqb, lt-ltb, le-ltb, le-leb, lt-leb}
 use Rattle.paper.specs.Records.{rowFields}
 use Rattle.records.proofs.RowKinds.{row-pair, row-none}
 use Rattle.records.proofs.rules.row_fields.Statement.{statement}

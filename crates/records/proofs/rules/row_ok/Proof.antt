@@ -1,6 +1,7 @@
+-- `records::rules::row_ok` meets its contract.
 use borrow.Author.Tests.{ne-eqb}
-use Rattle.paper.specs.Records.{rowOk}
 use borrow.Author.Needs.{needs}
+use Rattle.paper.specs.Records.{rowOk}
 use Rattle.records.proofs.rules.row_ok.Statement.{statement}
 use Rattle.records.proofs.rules.row_ok.Tie as tie
 

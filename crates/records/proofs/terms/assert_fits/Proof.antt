@@ -1,8 +1,9 @@
+-- `records::terms::assert_fits` meets its contract.
+use native.Mathlib.Omega.{arith}
+use borrow.Author.Tests.{ne-eqb, not-true, not-false}
+use borrow.Author.Needs.{needs}
 use Rattle.paper.specs.Records.{assertFits}
 use Rattle.records.proofs.Kept.{first-run, second-run}
-use borrow.Author.Tests.{ne-eqb, not-true, not-false}
-use native.Mathlib.Omega.{arith}
-use borrow.Author.Needs.{needs}
 use Rattle.records.proofs.terms.assert_fits.Statement.{statement}
 use Rattle.records.proofs.terms.assert_fits.Tie as tie
 

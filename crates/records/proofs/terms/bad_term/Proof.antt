@@ -1,13 +1,13 @@
+-- `records::terms::bad_term` meets its contract.
+use Prim.Native.Nat.{ℕ, _+_, _*_, _-_, _≤_, _<_}
 use mathlib.Core.List.{List}
 use mathlib.Core.Bool.{Bool}
-use Rattle.paper.specs.Trailer.{countOf}
 use lib.ListN.{length}
-use Rattle.paper.specs.Trailer.{offsetOf, recordAt}
-use Rattle.paper.specs.Records.{assertFits}
-use Rattle.records.proofs.Kept.{kept}
-use Rattle.trailer.proofs.Search.{Sought, start, more, stop, done}
-use Prim.Native.Nat.{ℕ, _+_, _*_, _-_, _≤_, _<_}
 use native.Mathlib.Omega.{arith}
+use Rattle.paper.specs.Trailer.{countOf, offsetOf, recordAt}
+use Rattle.paper.specs.Records.{assertFits}
+use Rattle.trailer.proofs.Search.{Sought, start, more, stop, done}
+use Rattle.records.proofs.Kept.{kept}
 use Rattle.records.proofs.terms.bad_term.Statement.{statement}
 use Rattle.records.proofs.terms.bad_term.Tie as tie
 

@@ -1,6 +1,7 @@
-use Rattle.paper.specs.Records.{partLen}
+-- `records::terms::part_len` meets its contract.
 use borrow.Author.Tests.{ne-eqb}
 use borrow.Author.Needs.{needs}
+use Rattle.paper.specs.Records.{partLen}
 use Rattle.records.proofs.terms.part_len.Statement.{statement}
 use Rattle.records.proofs.terms.part_len.Tie as tie
 

@@ -1,6 +1,7 @@
-use lib.Dec.{leb}
+-- `records::terms::term_fits` meets its contract.
 use Prim.Native.Nat.{ℕ}
 use mathlib.Core.Path.{ap}
+use lib.Dec.{leb}
 use borrow.Author.Needs.{needs}
 use Rattle.records.proofs.terms.term_fits.Statement.{statement}
 use Rattle.records.proofs.terms.term_fits.Tie as tie

@@ -1,8 +1,9 @@
-use native.Mathlib.Numerals.{add-one}
-use Rattle.paper.specs.Records.{termLen}
+-- `records::terms::term_len` meets its contract.
 use Prim.Native.Nat.{_*_, _-_, _≤_}
 use mathlib.Core.Path.{_≡_, refl}
+use native.Mathlib.Numerals.{add-one}
 use native.Mathlib.Omega.{arith}
+use Rattle.paper.specs.Records.{termLen}
 use Rattle.records.proofs.terms.term_len.Statement.{statement}
 use Rattle.records.proofs.terms.term_len.Tie as tie
 
