@@ -18,7 +18,7 @@ use Rattle.table.specs.Bits.{bitAt, wiped, copied}
 use Rattle.table.proofs.Bits.{copied-bit}
 use Rattle.table.proofs.Spans.{span-lt}
 use Rattle.groundwork.specs.Ground.{Ground}
-use Rattle.chart.specs.Places.{placesIn}
+use Rattle.groundwork.specs.Places.{placesIn}
 use Rattle.chart.specs.Steps.{Adds, Pairs, Chained, parted, carriedIn}
 use Rattle.chart.specs.Cells.{ranged, fitting, passing, derivable, emptied, Cell, Filled, Within, Grown, Charted}
 use Rattle.chart.proofs.Adding.{kept-copied}

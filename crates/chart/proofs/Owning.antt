@@ -24,7 +24,7 @@ use Rattle.paper.proofs.Derivation.{at-fits, fits-at, stretch-part}
 use Rattle.table.specs.Spans.{spanAt}
 use Rattle.table.specs.Bits.{bit, bitAt}
 use Rattle.groundwork.specs.Ground.{Ground, Splits, someLetter, pairWord, pairsAt, countAt, lengthsAt}
-use Rattle.chart.specs.Places.{placeOf, placesIn}
+use Rattle.groundwork.specs.Places.{placeOf, placesIn}
 use Rattle.chart.specs.Steps.{Adds, only, both, paired, parted}
 use Rattle.chart.specs.Cells.{holds, ranged, fitting, splitting, among, passing, canHold, canHoldAll}
 use Rattle.chart.proofs.Adding.{adds-then}

@@ -13,7 +13,7 @@ use Rattle.paper.specs.Sheet.{sheetOf, grammarOf}
 use Rattle.paper.specs.Opens.{pattern}
 use Rattle.table.specs.Spans.{spanAt}
 use Rattle.table.specs.Bits.{bitAt}
-use Rattle.chart.specs.Places.{placesIn}
+use Rattle.groundwork.specs.Places.{placesIn}
 use Rattle.chart.specs.Steps.{Kept}
 
 -- a range that holds the byte

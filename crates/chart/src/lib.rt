@@ -1,6 +1,6 @@
 // Which rows derive which span of a term whose places are known or unknown, in the lent workspace.
 // A place is a byte, or 256 where it is not known. Spans are filled the shorter ones first, each before it is read.
-mod singles;
+pub mod singles;
 mod splits;
 
 ghost use mathlib.Core.Path.{_≡_};

@@ -11,7 +11,7 @@ ghost use Rattle.paper.specs.Sheet.{sheetOf, grammarOf, textOf};
 ghost use Rattle.paper.specs.Opens.{pattern};
 ghost use Rattle.table.specs.Bits.{bit};
 ghost use Rattle.groundwork.specs.Ground.{Ground, lengthsAt};
-ghost use Rattle.chart.specs.Places.{placesIn};
+ghost use Rattle.groundwork.specs.Places.{placesIn};
 ghost use Rattle.chart.specs.Steps.{Adds};
 ghost use Rattle.chart.specs.Cells.{«holds», ranged, fitting, among, passing, canHold, canHoldAll};
 
@@ -78,7 +78,7 @@ fn can_hold(lay: &[u64], x: usize, k: usize, b: usize) -> bool
 }
 
 // Whether the places from i on can hold a part of the sheet's text, which stands at `off` in it.
-fn can_hold_all(part: &[u8], off: usize, places: &[u16], i: usize, lay: &[u64]) -> bool
+pub fn can_hold_all(part: &[u8], off: usize, places: &[u16], i: usize, lay: &[u64]) -> bool
     requires { ⌜ (off + length (now part) ≤ 1024) × (i + length (now part) ≤ length (now places)) × (1048 ≤ length (now lay)) ⌝ }
     ensures { λ r. ⌜ r ≡ canHoldAll (now (lay .entry)) (now (places .entry)) i off (now (part .entry)) ⌝ }
 {

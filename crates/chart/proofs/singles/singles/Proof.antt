@@ -7,7 +7,7 @@ use Rattle.paper.specs.Sheet.{sheetOf, grammarOf}
 use Rattle.paper.specs.Trailer.{countOf}
 use Rattle.paper.specs.Opens.{pattern}
 use Rattle.table.specs.Bits.{bitAt}
-use Rattle.chart.specs.Places.{placesIn}
+use Rattle.groundwork.specs.Places.{placesIn}
 use Rattle.chart.specs.Cells.{holds, ranged, among, passing}
 use Rattle.chart.proofs.Adding.{adds-none, adds-same, adds-joined}
 use Rattle.chart.proofs.Owning.{long-range}

@@ -1,0 +1,77 @@
+-- The claims, kind by kind, over a term's places as the code has them.
+use Prim.Native.Nat.{ℕ, suc, _+_, _-_, _<_, _≤_}
+use mathlib.Core.Path.{_≡_, refl, sym, ap, subst, _∙_}
+use mathlib.Core.Bool.{Bool, true, false, true≢false}
+use mathlib.Core.List.{List}
+use native.Mathlib.Omega.{arith}
+use borrow.Author.Tests.{eq-eqb, ne-eqb}
+use lib.ListN.{length, take, drop}
+use Rattle.paper.specs.Tests.{anyBelow}
+use Rattle.paper.specs.Rows.{stretch}
+use Rattle.paper.specs.Terms.{Place}
+use Rattle.paper.specs.Sheet.{Sheet, Derived, Contains, Equals, claimOf, sheetOf, grammarOf, textOf}
+use Rattle.paper.specs.Decide.{fits, accepts}
+use Rattle.paper.specs.Opens.{pattern, canHold}
+use Rattle.paper.proofs.Tests.{any-intro, any-elim}
+use Rattle.groundwork.specs.Places.{placesIn}
+use Rattle.groundwork.specs.Ground.{Ground}
+use Rattle.chart.specs.Cells.{canHoldAll, derivable}
+use Rattle.chart.proofs.Owning.{text-held}
+use Rattle.terms.proofs.Showing.{places-length}
+
+-- ---- a constant
+
+module _ (S : Sheet) (places : List ℕ) (a b : ℕ) where
+  -- the constant stands at i
+  abbrev pub stands : ℕ → Bool
+  stands i = fits (pattern S (placesIn places)) i (stretch 0 (S .grammar .text) a b)
+
+  pub here : (i : ℕ) → i + b ≤ length places → stands i ≡ true → (u : List Place) → true ≡ canHold S (Contains a b) (placesIn places) u
+  unfolding canHold
+  here i h e u =
+      let n = places-length places in
+      sym (any-intro (suc (length (placesIn places)) - b) stands i (omega arith) e)
+
+  pub nowhere : (i : ℕ) → ((j : ℕ) → j < i → stands j ≡ false) → length places < i + b → (u : List Place) → false ≡ canHold S (Contains a b) (placesIn places) u
+  unfolding canHold
+  nowhere i h l u = sym (go (anyBelow (suc (length (placesIn places)) - b) stands) refl)
+    where
+      go : (x : Bool) → anyBelow (suc (length (placesIn places)) - b) stands ≡ x → x ≡ false
+      go false e = refl
+      go true e =
+          let w = any-elim (suc (length (placesIn places)) - b) stands e in
+          let n = places-length places in
+          absurd (true≢false (sym (w .2) ∙ h (w .0) (omega (arith, w .1))))
+
+-- ---- a row
+
+pub derived : (s places : List ℕ) (row : ℕ) (x : Bool) → x ≡ derivable s places (length places) 0 row
+    → (u : List Place) → x ≡ canHold (sheetOf s) (Derived row) (placesIn places) u
+unfolding canHold sheetOf
+derived s places row x e u = e ∙ ap (λ (n : ℕ). accepts (grammarOf s) (pattern (sheetOf s) (placesIn places)) n 0 row) (sym (places-length places))
+
+-- ---- which claim a kind is
+
+module _ (kind a b : ℕ) where
+  pub claim-derived : kind ≡ 1 → claimOf kind a b ≡ Derived a
+  unfolding claimOf
+  claim-derived e = rw (eq-eqb kind 1 e)
+
+  pub claim-contains : kind ≡ 2 → claimOf kind a b ≡ Contains a b
+  unfolding claimOf
+  claim-contains e = rw (ne-eqb kind 1 (λ q. omega arith), eq-eqb kind 2 e)
+
+  pub claim-equals : kind ≡ 3 → claimOf kind a b ≡ Equals a b
+  unfolding claimOf
+  claim-equals e = rw (ne-eqb kind 1 (λ q. omega arith), ne-eqb kind 2 (λ q. omega arith))
+
+text-is : (s : List ℕ) → sheetOf s .grammar .text ≡ textOf s
+unfolding sheetOf grammarOf
+text-is s = refl
+
+-- the code's comparison of a stretch is the pattern's
+pub held-here : (s lay places : List ℕ) → Ground (sheetOf s) lay → (i a b : ℕ) → a + b ≤ length (textOf s) → i + b ≤ length places
+    → canHoldAll lay places i a (take b (drop a (textOf s))) ≡ fits (pattern (sheetOf s) (placesIn places)) i (stretch 0 (sheetOf s .grammar .text) a b)
+held-here s lay places g i a b h k =
+    subst (λ (t : List ℕ). canHoldAll lay places i a (take b (drop a t)) ≡ fits (pattern (sheetOf s) (placesIn places)) i (stretch 0 (sheetOf s .grammar .text) a b)) (text-is s)
+    (text-held (sheetOf s) lay places g i a b (omega (arith, ap length (text-is s))) k)

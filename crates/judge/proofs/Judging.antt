@@ -1,0 +1,212 @@
+-- One assertion, and all of them.
+use Prim.Native.Nat.{ℕ, zero, suc, _+_, _<_, _≤_}
+use mathlib.Core.Path.{_≡_, refl, sym, ap, subst, _∙_}
+use mathlib.Core.Bool.{Bool, true, false, not, cond, _&&_, _||_, true≢false}
+use mathlib.Core.Logic.{_≢_}
+use mathlib.Core.List.{List}
+use native.Mathlib.Omega.{arith}
+use native.Mathlib.Decide.{ℕ-discrete}
+use borrow.Author.Tests.{eq-eqb, ne-eqb}
+use lib.Dec.{eqb}
+use lib.ListN.{length, getD, drop, take}
+use Rattle.paper.specs.Answers.{words}
+use Rattle.paper.specs.Tests.{anyOf, allOf}
+use Rattle.paper.specs.Trailer.{countOf, longest, recordAt}
+use Rattle.paper.specs.Records.{termLen}
+use Rattle.paper.specs.Terms.{Place, Known, placesOf, term, cutInside}
+use Rattle.paper.specs.Sheet as contents
+use Rattle.paper.specs.Sheet.{Sheet, Derived, Contains, Equals, Run, claimOf, secondRun, partsOf, inside, sheetOf, textOf, grammarOf}
+use Rattle.paper.specs.Open.{termPlaces}
+use Rattle.paper.specs.Opens.{isUnknown, canHold, canFail, can, possible, opens}
+use Rattle.paper.proofs.Tests.{all-of-at, at-all-of, and-intro, and-left, and-right, all-of-nil}
+use Rattle.sheet.specs.declared.Assertion.{Assertion}
+use Rattle.sheet.specs.Readers.{assertionOf}
+use Rattle.sheet.proofs.Contents.{assertions-length}
+use Rattle.chart.specs.Cells.{Within}
+use Rattle.terms.specs.declared.Places.{Places}
+use Rattle.terms.specs.Shown.{shown, Sized, runOf, Readable}
+use Rattle.judge.specs.declared.Runs.{Runs}
+use Rattle.judge.specs.Judged.{Told, runsOf, possibleOn}
+use Rattle.judge.proofs.Claiming.{claim-derived, claim-contains, claim-equals}
+
+-- ---- the workspace
+
+pub within-none : (w : List ℕ) → Within w w
+within-none w = record { long = refl; rest = refl }
+
+pub within-more : (u v w : List ℕ) → Within u v → Within v w → Within u w
+within-more u v w a b = record { long = b .long ∙ a .long; rest = b .rest ∙ a .rest }
+
+-- ---- the sign
+
+module _ (S : Sheet) (a : contents.Assertion) (T U : List Place) where
+  pub can-asserted : (x : Bool) → a .denied ≡ false → x ≡ canHold S (a .claim) T U → x ≡ can S a T U
+  unfolding can
+  can-asserted x d e = rw (d, e)
+
+  pub can-unknown : a .denied ≡ true → true ≡ anyOf isUnknown T → true ≡ can S a T U
+  unfolding can canFail
+  can-unknown d e = rw (d, ← e)
+
+  pub can-unknown-2 : a .denied ≡ true → false ≡ anyOf isUnknown T → true ≡ anyOf isUnknown U → true ≡ can S a T U
+  unfolding can canFail
+  can-unknown-2 d e f = rw (d, ← e, ← f)
+
+  pub can-denied : (x : Bool) → a .denied ≡ true → false ≡ anyOf isUnknown T → false ≡ anyOf isUnknown U → x ≡ canHold S (a .claim) T U → not x ≡ can S a T U
+  unfolding can canFail
+  can-denied x d e f g = rw (d, ← e, ← f, g)
+
+-- ---- the runs
+
+text-is : (s : List ℕ) → sheetOf s .grammar .text ≡ textOf s
+unfolding sheetOf grammarOf
+text-is s = refl
+
+module _ (s : List ℕ) (a : Assertion) (t : Told s a) where
+  second-is : secondRun (claimOf (a .kind) (a .a) (a .b)) ≡ runOf (runsOf a .first2) (runsOf a .count2)
+  unfolding runsOf
+  second-is = go (ℕ-discrete (a .kind) 1) (ℕ-discrete (a .kind) 2)
+    where
+      go : Dec (a .kind ≡ 1) → Dec (a .kind ≡ 2) → secondRun (claimOf (a .kind) (a .a) (a .b)) ≡ runOf (cond (eqb (a .kind) 3) (a .a) 0) (cond (eqb (a .kind) 3) (a .b) 0)
+      go (yes e) d = rw (claim-derived (a .kind) (a .a) (a .b) e, ne-eqb (a .kind) 3 (λ q. omega arith))
+      go (no e) (yes d) = rw (claim-contains (a .kind) (a .a) (a .b) d, ne-eqb (a .kind) 3 (λ q. omega arith))
+      go (no e) (no d) =
+          let l = t .facts .least in
+          let m = t .facts .most in
+          let k : a .kind ≡ 3 = omega arith in
+          rw (claim-equals (a .kind) (a .a) (a .b) k, eq-eqb (a .kind) 3 k)
+
+  pub run-first : runsOf a .first + runsOf a .count ≤ countOf s 3
+  unfolding runsOf
+  run-first = t .facts .run
+
+  pub run-second : runsOf a .first2 + runsOf a .count2 ≤ countOf s 3
+  unfolding runsOf
+  run-second = go (ℕ-discrete (a .kind) 3)
+    where
+      go : Dec (a .kind ≡ 3) → cond (eqb (a .kind) 3) (a .a) 0 + cond (eqb (a .kind) 3) (a .b) 0 ≤ countOf s 3
+      go (yes e) = rw (eq-eqb (a .kind) 3 e) (t .facts .equals e)
+      go (no e) = rw (ne-eqb (a .kind) 3 e) (omega arith)
+
+  fits-first : termLen s (recordAt s 3 (runsOf a .first)) (runsOf a .count) ≤ 60
+  unfolding runsOf
+  fits-first = t .terms .one
+
+  fits-second : termLen s (recordAt s 3 (runsOf a .first2)) (runsOf a .count2) ≤ 60
+  unfolding runsOf termLen
+  fits-second = go (ℕ-discrete (a .kind) 3)
+    where
+      go : Dec (a .kind ≡ 3) → termLen s (recordAt s 3 (cond (eqb (a .kind) 3) (a .a) 0)) (cond (eqb (a .kind) 3) (a .b) 0) ≤ 60
+      go (yes e) = rw (eq-eqb (a .kind) 3 e) (t .terms .two e)
+      go (no e) = rw (ne-eqb (a .kind) 3 e) (omega arith)
+
+  module _ (n : ℕ) (h : n ≤ longest s) where
+    pub readable-first : allOf (cutInside n) (partsOf (sheetOf s) (runOf (runsOf a .first) (runsOf a .count))) ≡ true → Readable s n (runsOf a .first) (runsOf a .count)
+    readable-first e = record { short = h; run = run-first; fits = fits-first; within = e }
+
+    pub readable-second : allOf (cutInside n) (partsOf (sheetOf s) (runOf (runsOf a .first2) (runsOf a .count2))) ≡ true → Readable s n (runsOf a .first2) (runsOf a .count2)
+    readable-second e = record { short = h; run = run-second; fits = fits-second; within = e }
+
+    abbrev one : Bool
+    one = allOf (cutInside n) (partsOf (sheetOf s) (runOf (runsOf a .first) (runsOf a .count)))
+
+    abbrev two : Bool
+    two = allOf (cutInside n) (partsOf (sheetOf s) (runOf (runsOf a .first2) (runsOf a .count2)))
+
+    inside-is : inside (sheetOf s) n (assertionOf a) ≡ (one && two)
+    unfolding inside runsOf
+    inside-is = ap (λ (r : Run). allOf (cutInside n) (partsOf (sheetOf s) (runOf (a .first) (a .count))) && allOf (cutInside n) (partsOf (sheetOf s) r)) second-is
+
+    pub outside-first : (W : List Place) → false ≡ one → false ≡ possibleOn (sheetOf s) n W (assertionOf a)
+    unfolding possibleOn
+    outside-first W e = rw (inside-is, ← e)
+
+    pub outside-second : (W : List Place) → true ≡ one → false ≡ two → false ≡ possibleOn (sheetOf s) n W (assertionOf a)
+    unfolding possibleOn
+    outside-second W e f = rw (inside-is, ← e, ← f)
+
+    pub inside-both : (W T U : List Place) (x : Bool) → true ≡ one → true ≡ two
+        → T ≡ term Known (textOf s) W (partsOf (sheetOf s) (runOf (runsOf a .first) (runsOf a .count)))
+        → U ≡ term Known (textOf s) W (partsOf (sheetOf s) (runOf (runsOf a .first2) (runsOf a .count2)))
+        → x ≡ can (sheetOf s) (assertionOf a) T U → x ≡ possibleOn (sheetOf s) n W (assertionOf a)
+    unfolding possibleOn runsOf
+    inside-both W T U x e f g h k =
+        let g′ = g ∙ ap (λ (t : List ℕ). term Known t W (partsOf (sheetOf s) (runOf (runsOf a .first) (runsOf a .count)))) (sym (text-is s)) in
+        let h′ = h ∙ ap (λ (t : List ℕ). term Known t W (partsOf (sheetOf s) (runOf (runsOf a .first2) (runsOf a .count2)))) (sym (text-is s)) in
+        rw (inside-is, ← e, ← f, second-is, ← g′, ← h′) k
+
+-- ---- all assertions
+
+module _ (s : List ℕ) (n : ℕ) (p : List ℕ) where
+  abbrev pub PossibleTo : ℕ → Type 0
+  PossibleTo i = (j : ℕ) (d : contents.Assertion) → j < i → possible (sheetOf s) n p (getD (sheetOf s .assertions) j d) ≡ true
+
+  pub possible-more : (i : ℕ) (a : contents.Assertion) → PossibleTo i → ((d : contents.Assertion) → a ≡ getD (sheetOf s .assertions) i d) → possible (sheetOf s) n p a ≡ true → PossibleTo (i + 1)
+  possible-more i a h e f j d l = go (ℕ-discrete j i)
+    where
+      go : Dec (j ≡ i) → possible (sheetOf s) n p (getD (sheetOf s .assertions) j d) ≡ true
+      go (yes q) = rw (q, ← (e d)) f
+      go (no q) = h j d (omega arith)
+
+  some : contents.Assertion
+  some = record { claim = Derived 0; denied = false; term = record { first = 0; count = 0 } }
+
+  pub all-possible : PossibleTo (countOf s 4) → true ≡ opens (sheetOf s) n p
+  unfolding opens
+  all-possible h = sym (at-all-of (possible (sheetOf s) n p) (sheetOf s .assertions) some (λ k l. h k some (omega (arith, assertions-length s, l))))
+
+  pub one-impossible : (i : ℕ) (a : contents.Assertion) → i < countOf s 4 → ((d : contents.Assertion) → a ≡ getD (sheetOf s .assertions) i d) → possible (sheetOf s) n p a ≡ false → false ≡ opens (sheetOf s) n p
+  unfolding opens
+  one-impossible i a l e f = sym (go (allOf (possible (sheetOf s) n p) (sheetOf s .assertions)) refl)
+    where
+      go : (x : Bool) → allOf (possible (sheetOf s) n p) (sheetOf s .assertions) ≡ x → x ≡ false
+      go false q = refl
+      go true q =
+          let w = all-of-at (possible (sheetOf s) n p) (sheetOf s .assertions) some q i (omega (arith, assertions-length s)) in
+          absurd (true≢false (sym (rw (← (e some)) at w) ∙ f))
+
+-- over the places of v it is the paper's
+pub on-places : (s : List ℕ) (n : ℕ) (p : List ℕ) (W : List Place) (a : contents.Assertion) → W ≡ placesOf n p → possibleOn (sheetOf s) n W a ≡ possible (sheetOf s) n p a
+unfolding possibleOn possible termPlaces
+on-places s n p W a e = rw e
+
+pub judged-is : (s : List ℕ) (n : ℕ) (p : List ℕ) (v : Places) (a : contents.Assertion) (x : Bool)
+    → x ≡ possibleOn (sheetOf s) (v .len) (shown v) a → v .len ≡ n → shown v ≡ placesOf n p → x ≡ possible (sheetOf s) n p a
+judged-is s n p v a x e l w = e ∙ ap (λ (k : ℕ). possibleOn (sheetOf s) k (shown v) a) l ∙ on-places s n p (shown v) a w
+
+-- ---- the same of the runs as the code has them
+
+module _ (s : List ℕ) (a : Assertion) (t : Told s a) (r : Runs) (e : r ≡ runsOf a) where
+  pub got-first : r .first + r .count ≤ countOf s 3
+  got-first = subst (λ (x : Runs). x .first + x .count ≤ countOf s 3) (sym e) (run-first s a t)
+
+  pub got-second : r .first2 + r .count2 ≤ countOf s 3
+  got-second = subst (λ (x : Runs). x .first2 + x .count2 ≤ countOf s 3) (sym e) (run-second s a t)
+
+  module _ (n : ℕ) (h : n ≤ longest s) where
+    abbrev insideFirst : Runs → Bool
+    insideFirst x = allOf (cutInside n) (partsOf (sheetOf s) (runOf (x .first) (x .count)))
+
+    abbrev insideSecond : Runs → Bool
+    insideSecond x = allOf (cutInside n) (partsOf (sheetOf s) (runOf (x .first2) (x .count2)))
+
+    pub read-first : insideFirst r ≡ true → Readable s n (r .first) (r .count)
+    read-first y = subst (λ (x : Runs). insideFirst x ≡ true → Readable s n (x .first) (x .count)) (sym e) (readable-first s a t n h) y
+
+    pub read-second : insideSecond r ≡ true → Readable s n (r .first2) (r .count2)
+    read-second y = subst (λ (x : Runs). insideSecond x ≡ true → Readable s n (x .first2) (x .count2)) (sym e) (readable-second s a t n h) y
+
+    pub end-first : (W : List Place) → false ≡ insideFirst r → false ≡ possibleOn (sheetOf s) n W (assertionOf a)
+    end-first W y = outside-first s a t n h W (y ∙ ap insideFirst e)
+
+    pub end-second : (W : List Place) → true ≡ insideFirst r → false ≡ insideSecond r → false ≡ possibleOn (sheetOf s) n W (assertionOf a)
+    end-second W y z = outside-second s a t n h W (y ∙ ap insideFirst e) (z ∙ ap insideSecond e)
+
+    pub end-both : (W T U : List Place) (x : Bool) → true ≡ insideFirst r → true ≡ insideSecond r
+        → T ≡ term Known (textOf s) W (partsOf (sheetOf s) (runOf (r .first) (r .count)))
+        → U ≡ term Known (textOf s) W (partsOf (sheetOf s) (runOf (r .first2) (r .count2)))
+        → x ≡ can (sheetOf s) (assertionOf a) T U → x ≡ possibleOn (sheetOf s) n W (assertionOf a)
+    end-both W T U x y z f g k =
+        inside-both s a t n h W T U x (y ∙ ap insideFirst e) (z ∙ ap insideSecond e)
+        (f ∙ ap (λ (q : Runs). term Known (textOf s) W (partsOf (sheetOf s) (runOf (q .first) (q .count)))) e)
+        (g ∙ ap (λ (q : Runs). term Known (textOf s) W (partsOf (sheetOf s) (runOf (q .first2) (q .count2)))) e) k

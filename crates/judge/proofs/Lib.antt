@@ -1,0 +1,2 @@
+pub mod Claiming
+pub mod Judging

@@ -1,0 +1,56 @@
+use mathlib.Core.Path.{sym, _∙_}
+use Rattle.judge.proofs.Judging.{within-none, got-first, got-second, read-first, read-second, end-first, end-second, end-both}
+use borrow.Author.Needs.{needs}
+use Rattle.judge.proofs.possible.Statement.{statement}
+use Rattle.judge.proofs.possible.Tie as tie
+use Rattle.judge.proofs.possible.Reads as reads
+use Rattle.judge.proofs.possible.Lts as lts
+use Rattle.judge.proofs.can_be.Reads as can-be-reads
+use Rattle.judge.proofs.runs_of.Reads as runs-of-reads
+use Rattle.terms.proofs.inside.Reads as inside-reads
+use Rattle.terms.proofs.term.Reads as term-reads
+
+runs-of-requires : tie.Need-runs-of-requires
+runs-of-requires c κs = search needs
+
+inside-requires : tie.Need-inside-requires
+inside-requires c κs = (c .before .before .before .before .pre .0, c .before .before .before .before .pre .3, got-first _ _ (c .before .before .before .before .pre .2) _ (c .runs-of .ensures))
+
+inside-requires-2 : tie.Need-inside-requires-2
+inside-requires-2 c κs = (c .before .before .before .before .before .before .pre .0, c .before .before .before .before .before .before .pre .3, got-second _ _ (c .before .before .before .before .before .before .pre .2) _ (c .before .before .runs-of .ensures))
+
+term-requires : tie.Need-term-requires
+term-requires c κs = (c .before .before .before .before .before .before .before .before .pre .0, c .before .before .before .before .before .before .before .before .pre .3, c .before .before .before .before .before .before .before .before .pre .4, read-first _ _ (c .before .before .before .before .before .before .before .before .pre .2) _ (c .before .before .before .before .runs-of .ensures) _ (c .before .before .before .before .before .before .before .before .pre .5) (sym (c .before .before .before .inside .ensures) ∙ c .before .before .if1 .taken))
+
+term-requires-2 : tie.Need-term-requires-2
+term-requires-2 c κs = (c .before .before .before .before .before .before .before .before .before .pre .0, c .before .before .before .before .before .before .before .before .before .pre .3, c .before .before .before .before .before .before .before .before .before .pre .4, read-second _ _ (c .before .before .before .before .before .before .before .before .before .pre .2) _ (c .before .before .before .before .before .runs-of .ensures) _ (c .before .before .before .before .before .before .before .before .before .pre .5) (sym (c .before .before .inside2 .ensures) ∙ c .before .if2 .taken))
+
+can-be-requires : tie.Need-can-be-requires
+can-be-requires c κs = search needs
+
+same-length : tie.Need-same-length
+same-length c = search needs
+
+returns : tie.Need-returns
+returns c = (end-both _ _ (c .before .before .before .before .before .before .before .before .before .before .before .before .before .before .pre .2) _ (c .before .before .before .before .before .before .before .before .before .before .runs-of .ensures) _ (c .before .before .before .before .before .before .before .before .before .before .before .before .before .before .pre .5) _ _ _ _ (sym (c .before .before .before .before .before .before .before .before .if1 .taken) ∙ c .before .before .before .before .before .before .before .before .before .inside .ensures) (sym (c .before .before .before .before .before .before .if2 .taken) ∙ c .before .before .before .before .before .before .before .inside2 .ensures) (c .before .before .before .before .before .term .ensures .0) (c .before .before .before .before .term2 .ensures .0) (c .before .before .can-be .ensures .0), c .before .before .can-be .ensures .1)
+
+returns-2 : tie.Need-returns-2
+returns-2 c = (end-second _ _ (c .before .before .before .before .before .before .before .before .pre .2) _ (c .before .before .before .before .runs-of .ensures) _ (c .before .before .before .before .before .before .before .before .pre .5) _ (sym (c .before .before .if1 .taken) ∙ c .before .before .before .inside .ensures) (sym (c .if2 .left) ∙ c .before .inside2 .ensures), within-none _)
+
+returns-3 : tie.Need-returns-3
+returns-3 c = (end-first _ _ (c .before .before .before .before .before .before .pre .2) _ (c .before .before .runs-of .ensures) _ (c .before .before .before .before .before .before .pre .5) _ (sym (c .if1 .left) ∙ c .before .inside .ensures), within-none _)
+
+pub possible-spec : {M : Type 1} → statement M
+possible-spec =
+    tie.close
+    (tie.spec
+    runs-of-requires
+    inside-requires
+    inside-requires-2
+    term-requires
+    term-requires-2
+    can-be-requires
+    same-length
+    returns
+    returns-2
+    returns-3)

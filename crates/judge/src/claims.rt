@@ -1,0 +1,88 @@
+// Can a claim be made to hold of its terms?
+ghost use mathlib.Core.Path.{_≡_};
+ghost use mathlib.Core.List.{List};
+ghost use Prim.Native.Nat.{ℕ, _+_, _≤_, _<_};
+ghost use lib.ListN.{length, take};
+ghost use Rattle.paper.specs.Rows.{stretch};
+ghost use Rattle.paper.specs.Trailer.{countOf};
+ghost use Rattle.paper.specs.Refusals.{refusal};
+ghost use Rattle.paper.specs.Terms.{Place};
+ghost use Rattle.paper.specs.Sheet.{sheetOf, Contains, Derived, claimOf};
+ghost use Rattle.paper.specs.Decide.{fits};
+ghost use Rattle.paper.specs.Opens.{pattern, canHold};
+ghost use Rattle.groundwork.specs.Ground.{Ground};
+ghost use Rattle.groundwork.specs.Places.{placesIn};
+ghost use Rattle.chart.specs.Cells.{Within};
+ghost use Rattle.terms.specs.Shown.{shown, Sized};
+ghost use Rattle.judge.specs.Judged.{Told};
+
+// The places from i on can hold b bytes of the text from a on.
+fn holds_at(s: &[u8], a: usize, b: usize, places: &[u16], i: usize, lay: &[u64]) -> bool
+    requires { ⌜ (refusal (now s) ≡ 0) × Ground (sheetOf (now s)) (now lay) × (a + b ≤ countOf (now s) 1) × (i + b ≤ length (now places)) ⌝ }
+    ensures { λ r. ⌜ r ≡ fits (pattern (sheetOf (now (s .entry))) (placesIn (now (places .entry)))) i (stretch 0 (sheetOf (now (s .entry)) .grammar .text) a b) ⌝ }
+{
+    let text = sheet::text_of(s);
+    let e = a + b;
+    chart::singles::can_hold_all(&text[a..e], a, places, i, lay)
+}
+
+// The places can hold them somewhere.
+fn can_contain(s: &[u8], a: usize, b: usize, places: &[u16], lay: &[u64]) -> bool
+    requires { ⌜ (refusal (now s) ≡ 0) × Ground (sheetOf (now s)) (now lay) × (a + b ≤ countOf (now s) 1) × (length (now places) ≤ 60) ⌝ }
+    ensures { λ r. ⌜ ((u : List Place) → r ≡ canHold (sheetOf (now (s .entry))) (Contains a b) (placesIn (now (places .entry))) u) ⌝ }
+{
+    let n = places.len();
+    let mut i = 0;
+    while i + b <= n {
+        if holds_at(s, a, b, places, i, lay) {
+            return true;
+        }
+        i += 1;
+    }
+    false
+}
+
+// The row derives some filling of the places.
+fn can_derive(s: &[u8], row: usize, places: &[u16], lay: &[u64], work: &mut [u64]) -> bool
+    requires { ⌜ (refusal (now s) ≡ 0) × Ground (sheetOf (now s)) (now lay) × (row < countOf (now s) 2) × (length (now places) ≤ 60) × (7564 ≤ length (now work)) ⌝ }
+    ensures { λ r. ⌜ ((u : List Place) → r ≡ canHold (sheetOf (now (s .entry))) (Derived row) (placesIn (now (places .entry))) u) × Within (now (work .entry)) (now (work .exit)) ⌝ }
+{
+    chart::fill(s, places, lay, work);
+    chart::derives(places.len(), row, work)
+}
+
+// The first `len` places, for a row.
+fn derive_from(s: &[u8], row: usize, of: &[u16], len: usize, lay: &[u64], work: &mut [u64]) -> bool
+    requires { ⌜ (refusal (now s) ≡ 0) × Ground (sheetOf (now s)) (now lay) × (row < countOf (now s) 2) × (len ≤ 60) × (len ≤ length (now of)) × (7564 ≤ length (now work)) ⌝ }
+    ensures { λ r. ⌜ ((u : List Place) → r ≡ canHold (sheetOf (now (s .entry))) (Derived row) (placesIn (take len (now (of .entry)))) u) × Within (now (work .entry)) (now (work .exit)) ⌝ }
+{
+    can_derive(s, row, &of[0..len], lay, work)
+}
+
+// The first `len` places, for a constant.
+fn contain_from(s: &[u8], a: usize, b: usize, of: &[u16], len: usize, lay: &[u64]) -> bool
+    requires { ⌜ (refusal (now s) ≡ 0) × Ground (sheetOf (now s)) (now lay) × (a + b ≤ countOf (now s) 1) × (len ≤ 60) × (len ≤ length (now of)) ⌝ }
+    ensures { λ r. ⌜ ((u : List Place) → r ≡ canHold (sheetOf (now (s .entry))) (Contains a b) (placesIn (take len (now (of .entry)))) u) ⌝ }
+{
+    can_contain(s, a, b, &of[0..len], lay)
+}
+
+// The claim can be made to hold.
+pub fn can_hold(
+    s: &[u8],
+    a: sheet::Assertion,
+    p: terms::Places,
+    q: terms::Places,
+    lay: &[u64],
+    work: &mut [u64],
+) -> bool
+    requires { ⌜ (refusal (now s) ≡ 0) × Ground (sheetOf (now s)) (now lay) × Told (now s) a × Sized p × Sized q × (7564 ≤ length (now work)) ⌝ }
+    ensures { λ r. ⌜ (r ≡ canHold (sheetOf (now (s .entry))) (claimOf (a .kind) (a .a) (a .b)) (shown p) (shown q)) × Within (now (work .entry)) (now (work .exit)) ⌝ }
+{
+    let kind = a.kind;
+    match kind {
+        1 => derive_from(s, a.a, &p.of, p.len, lay, work),
+        2 => contain_from(s, a.a, a.b, &p.of, p.len, lay),
+        _ => terms::meets::equal(s, p, q),
+    }
+}
