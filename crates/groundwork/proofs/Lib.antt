@@ -1,0 +1,3 @@
+pub mod Frame
+pub mod ByKind
+pub mod Laying
