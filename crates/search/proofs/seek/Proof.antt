@@ -1,0 +1,155 @@
+use Prim.Native.Nat.{_-_}
+use mathlib.Core.Path.{_≡_, sym, _∙_}
+use native.Mathlib.Omega.{arith}
+use borrow.Author.Needs.{needs}
+use lib.ListN.{length}
+use Rattle.paper.specs.Sheet.{sheetOf}
+use Rattle.paper.specs.Opens.{opens}
+use Rattle.sheet.proofs.Good.{good}
+use Rattle.chart.specs.Cells.{Within}
+use Rattle.judge.proofs.Judging.{within-none, within-more}
+use Rattle.walk.specs.Letters.{hasLetter}
+use Rattle.walk.proofs.Seek.{Seeking, seek-start, seek-marks, seek-found, seek-spent, seek-over, seek-none, seek-next, seek-length}
+use Rattle.search.proofs.Tellings.{tells-found, tells-none, tells-spent}
+use Rattle.search.proofs.seek.Statement.{statement}
+use Rattle.search.proofs.seek.Tie as tie
+use Rattle.search.proofs.seek.Reads as reads
+use Rattle.search.proofs.seek.Lts as lts
+use Rattle.search.proofs.judged.Reads as judged-reads
+use Rattle.search.proofs.none.Reads as none-reads
+use Rattle.search.proofs.spent.Reads as spent-reads
+use Rattle.walk.proofs.State.again.Reads as again-reads
+use Rattle.walk.proofs.State.start.Reads as start-reads
+use Rattle.walk.proofs.advance.Reads as advance-reads
+use Rattle.walk.proofs.is_word.Reads as is-word-reads
+
+abbrev Inv-loop : tie.InvT-loop
+Inv-loop s letters slot lo hi budget lay work₀ counts₀ n₀ q₀ work counts n q = Seeking (hasLetter (letters .of)) slot (opens (sheetOf s)) lo hi budget n q counts × (length counts ≡ 480) × Within work₀ work
+
+abbrev μ-loop : tie.MeasureT-loop
+μ-loop s letters slot lo hi budget lay work₀ counts₀ n₀ q₀ work counts n q = budget - q .trials
+
+start-requires : tie.Need-start-requires Inv-loop μ-loop
+start-requires c κs = tt
+
+loop-holds : tie.Need-loop-holds Inv-loop μ-loop
+loop-holds c = (seek-start _ _ _ _ _ _ (c .start .result) _ (c .before .before .before .before .pre .2) (omega (arith, good _ (c .before .before .before .before .pre .0) .short, c .before .before .before .before .pre .3)) (search needs) (search needs) (search needs) (c .start .ensures .0) (c .start .ensures .1) (c .start .ensures .2) (c .start .ensures .3), search needs, within-none _)
+
+slice-aggregate-judged : tie.Need-slice-aggregate-judged Inv-loop μ-loop
+slice-aggregate-judged c = sym (c .before .before .before .before .before .loop .inv .0 .letters)
+
+judged-requires : tie.Need-judged-requires Inv-loop μ-loop
+judged-requires c κs =
+    let i = c .before .before .before .before .before .before .loop .inv .0 in
+    (c .before .before .before .before .before .before .before .before .before .before .before .pre .0, c .before .before .before .before .before .before .before .before .before .before .before .pre .1, i .within, omega (arith, i .letters, i .within, i .range, i .top), omega (arith, i .range, c .before .before .before .before .before .before .before .before .before .before .before .pre .3), omega (arith, c .before .before .before .before .before .before .loop .inv .2 .long, c .before .before .before .before .before .before .before .before .before .before .before .pre .6))
+
+is-word-requires : tie.Need-is-word-requires Inv-loop μ-loop
+is-word-requires c κs = tt
+
+add-t21 : tie.Need-add-t21 Inv-loop μ-loop
+add-t21 c = omega (arith, c .before .before .before .before .before .before .before .before .before .before .if1 .taken, c .before .before .before .before .before .before .before .before .before .before .before .before .before .before .before .before .before .fits .budget)
+
+same-length : tie.Need-same-length Inv-loop μ-loop
+same-length c = (within-more _ _ _ (c .before .before .before .before .before .before .before .before .before .before .before .before .loop .inv .2) (c .before .before .before .before .before .judged .ensures .1)) .long
+
+returns : tie.Need-returns Inv-loop μ-loop
+returns c =
+    let i = c .before .before .before .before .before .before .before .before .before .before .before .before .loop .inv .0 in
+    let w = c .before .before .is-word .ensures in
+    let y = c .before .if2 .taken in
+    (tells-found _ _ (c .before .before .before .before .before .before .before .before .before .before .before .before .loop .q .prefix) _ (omega (arith, i .within, i .range)) (omega (arith, i .within, i .range, i .top)) (i .letters)
+    (seek-found _ _ _ _ _ _ _ _ _ i (c .before .before .before .before .before .before .before .before .before .before .if1 .taken) (w .full y) (sym (c .before .before .before .before .before .judged .ensures .0) ∙ w .opened y)), within-more _ _ _ (c .before .before .before .before .before .before .before .before .before .before .before .before .loop .inv .2) (c .before .before .before .before .before .judged .ensures .1))
+
+slice-aggregate-advance : tie.Need-slice-aggregate-advance Inv-loop μ-loop
+slice-aggregate-advance c = sym (c .before .before .before .before .before .before .before .before .before .before .before .before .loop .inv .1)
+
+advance-requires : tie.Need-advance-requires Inv-loop μ-loop
+advance-requires c κs =
+    let w = c .before .before .is-word .ensures in
+    let i = c .before .before .before .before .before .before .before .before .before .before .before .before .loop .inv .0 in
+    (omega (arith, i .range, i .top), i .within, (λ o. omega (arith, i .within, w .short (c .before .if2 .left) o)), c .before .before .before .before .before .before .before .before .before .before .if1 .taken, i .fine, seek-marks _ _ _ _ _ _ _ _ _ i, c .before .before .before .before .before .before .before .before .before .before .before .before .before .before .before .before .before .pre .5, omega (arith, c .before .before .before .before .before .before .before .before .before .before .before .before .loop .inv .1))
+
+spent-requires : tie.Need-spent-requires Inv-loop μ-loop
+spent-requires c κs = tt
+
+same-length-2 : tie.Need-same-length-2 Inv-loop μ-loop
+same-length-2 c = (within-more _ _ _ (c .before .before .before .before .before .before .before .before .before .before .before .before .before .before .before .before .loop .inv .2) (c .before .before .before .before .before .before .before .before .before .judged .ensures .1)) .long
+
+returns-2 : tie.Need-returns-2 Inv-loop μ-loop
+returns-2 c =
+    (tells-spent _ _ (c .spent .result) _ (search needs) (c .spent .ensures)
+    (seek-over _ _ _ _ _ _ _ _ _ (c .before .before .before .before .before .before .before .before .before .before .before .before .before .before .before .before .loop .inv .0) (c .before .before .before .before .before .before .before .before .before .before .before .before .before .before .before .before .before .before .before .before .before .pre .4) _ (c .before .before .before .advance .result) _ (c .before .before .before .advance .ensures) (sym (c .before .before .before .before .before .before .before .before .before .judged .ensures .0)) (c .before .if3 .taken)), within-more _ _ _ (c .before .before .before .before .before .before .before .before .before .before .before .before .before .before .before .before .loop .inv .2) (c .before .before .before .before .before .before .before .before .before .judged .ensures .1))
+
+none-requires : tie.Need-none-requires Inv-loop μ-loop
+none-requires c κs = tt
+
+same-length-3 : tie.Need-same-length-3 Inv-loop μ-loop
+same-length-3 c = (within-more _ _ _ (c .before .before .before .before .before .before .before .before .before .before .before .before .before .before .before .before .before .before .before .loop .inv .2) (c .before .before .before .before .before .before .before .before .before .before .before .before .judged .ensures .1)) .long
+
+returns-3 : tie.Need-returns-3 Inv-loop μ-loop
+returns-3 c =
+    (tells-none _ _ (c .none .result) _ (search needs) (c .none .ensures)
+    (seek-none _ _ _ _ _ _ _ _ _ (c .before .before .before .before .before .before .before .before .before .before .before .before .before .before .before .before .before .before .before .loop .inv .0) (c .before .before .before .before .before .before .before .before .before .before .before .before .before .before .before .before .before .before .before .before .before .before .before .before .pre .4) _ (c .before .before .before .before .before .before .advance .result) _ (c .before .before .before .before .before .before .advance .ensures) (sym (c .before .before .before .before .before .before .before .before .before .before .before .before .judged .ensures .0)) (c .before .before .before .before .if3 .left) (c .before .before .if4 .taken) (c .before .if5 .taken)), within-more _ _ _ (c .before .before .before .before .before .before .before .before .before .before .before .before .before .before .before .before .before .before .before .loop .inv .2) (c .before .before .before .before .before .before .before .before .before .before .before .before .judged .ensures .1))
+
+add-n : tie.Need-add-n Inv-loop μ-loop
+add-n c = omega (arith, c .before .before .before .before .before .before .before .before .before .before .before .before .before .before .before .before .before .before .loop .inv .0 .range, c .before .before .before .before .before .before .before .before .before .before .before .before .before .before .before .before .before .before .loop .inv .0 .top)
+
+again-requires : tie.Need-again-requires Inv-loop μ-loop
+again-requires c κs = tt
+
+loop-less : tie.Need-loop-less Inv-loop μ-loop
+loop-less c = rw (c .again .ensures) (omega (arith, c .before .before .before .before .before .before .advance .ensures .more, c .before .before .before .before .before .before .before .before .before .before .before .before .before .before .before .before .before .if1 .taken))
+
+loop-again : tie.Need-loop-again Inv-loop μ-loop
+loop-again c =
+    (rw (c .again .ensures) (seek-length _ _ _ _ _ _ _ _ _ (c .before .before .before .before .before .before .before .before .before .before .before .before .before .before .before .before .before .before .before .loop .inv .0) (c .before .before .before .before .before .before .before .before .before .before .before .before .before .before .before .before .before .before .before .before .before .before .before .before .pre .4) _ (c .before .before .before .before .before .before .advance .result) _ (c .before .before .before .before .before .before .advance .ensures) (sym (c .before .before .before .before .before .before .before .before .before .before .before .before .judged .ensures .0)) (c .before .before .before .before .if3 .left) (c .before .before .if4 .taken) (c .before .if5 .left)),
+    c .before .before .before .before .before .before .advance .ensures .tallies ∙ c .before .before .before .before .before .before .before .before .before .before .before .before .before .before .before .before .before .before .before .loop .inv .1, within-more _ _ _ (c .before .before .before .before .before .before .before .before .before .before .before .before .before .before .before .before .before .before .before .loop .inv .2) (c .before .before .before .before .before .before .before .before .before .before .before .before .judged .ensures .1))
+
+loop-less-2 : tie.Need-loop-less-2 Inv-loop μ-loop
+loop-less-2 c = omega (arith, c .before .before .before .before .advance .ensures .more, c .before .before .before .before .before .before .before .before .before .before .before .before .before .before .before .if1 .taken)
+
+loop-again-2 : tie.Need-loop-again-2 Inv-loop μ-loop
+loop-again-2 c =
+    (seek-next _ _ _ _ _ _ _ _ _ (c .before .before .before .before .before .before .before .before .before .before .before .before .before .before .before .before .before .loop .inv .0) (c .before .before .before .before .before .before .before .before .before .before .before .before .before .before .before .before .before .before .before .before .before .before .pre .4) _ (c .before .before .before .before .advance .result) _ (c .before .before .before .before .advance .ensures) (sym (c .before .before .before .before .before .before .before .before .before .before .judged .ensures .0)) (c .before .before .if3 .left) (c .if4 .left),
+    c .before .before .before .before .advance .ensures .tallies ∙ c .before .before .before .before .before .before .before .before .before .before .before .before .before .before .before .before .before .loop .inv .1, within-more _ _ _ (c .before .before .before .before .before .before .before .before .before .before .before .before .before .before .before .before .before .loop .inv .2) (c .before .before .before .before .before .before .before .before .before .before .judged .ensures .1))
+
+spent-requires-2 : tie.Need-spent-requires-2 Inv-loop μ-loop
+spent-requires-2 c κs = tt
+
+same-length-4 : tie.Need-same-length-4 Inv-loop μ-loop
+same-length-4 c = c .before .before .before .loop .inv .2 .long
+
+returns-4 : tie.Need-returns-4 Inv-loop μ-loop
+returns-4 c = (tells-spent _ _ (c .spent2 .result) _ (search needs) (c .spent2 .ensures) (seek-spent _ _ _ _ _ _ _ _ _ (c .before .before .before .loop .inv .0) (c .before .if1 .left)), c .before .before .before .loop .inv .2)
+
+pub seek-spec : {M : Type 1} → statement M
+seek-spec =
+    tie.close
+    (tie.spec
+    Inv-loop
+    μ-loop
+    start-requires
+    loop-holds
+    slice-aggregate-judged
+    judged-requires
+    is-word-requires
+    add-t21
+    same-length
+    returns
+    slice-aggregate-advance
+    advance-requires
+    spent-requires
+    same-length-2
+    returns-2
+    none-requires
+    same-length-3
+    returns-3
+    add-n
+    again-requires
+    loop-less
+    loop-again
+    loop-less-2
+    loop-again-2
+    spent-requires-2
+    same-length-4
+    returns-4)
