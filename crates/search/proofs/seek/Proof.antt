@@ -56,9 +56,11 @@ returns : tie.Need-returns Inv-loop μ-loop
 returns c =
     let i = c .before .before .before .before .before .before .before .before .before .before .before .before .loop .inv .0 in
     let w = c .before .before .is-word .ensures in
-    let y = c .before .if2 .taken in
-    (tells-found _ _ (c .before .before .before .before .before .before .before .before .before .before .before .before .loop .q .prefix) _ (omega (arith, i .within, i .range)) (omega (arith, i .within, i .range, i .top)) (i .letters)
-    (seek-found _ _ _ _ _ _ _ _ _ i (c .before .before .before .before .before .before .before .before .before .before .if1 .taken) (w .full y) (sym (c .before .before .before .before .before .judged .ensures .0) ∙ w .opened y)), within-more _ _ _ (c .before .before .before .before .before .before .before .before .before .before .before .before .loop .inv .2) (c .before .before .before .before .before .judged .ensures .1))
+    let y = c .before .if2 .taken in (
+      tells-found _ _ (c .before .before .before .before .before .before .before .before .before .before .before .before .loop .q .prefix) _ (omega (arith, i .within, i .range)) (omega (arith, i .within, i .range, i .top)) (i .letters)
+          (seek-found _ _ _ _ _ _ _ _ _ i (c .before .before .before .before .before .before .before .before .before .before .if1 .taken) (w .full y) (sym (c .before .before .before .before .before .judged .ensures .0) ∙ w .opened y)),
+      within-more _ _ _ (c .before .before .before .before .before .before .before .before .before .before .before .before .loop .inv .2) (c .before .before .before .before .before .judged .ensures .1),
+    )
 
 slice-aggregate-advance : tie.Need-slice-aggregate-advance Inv-loop μ-loop
 slice-aggregate-advance c = sym (c .before .before .before .before .before .before .before .before .before .before .before .before .loop .inv .1)
@@ -76,9 +78,11 @@ same-length-2 : tie.Need-same-length-2 Inv-loop μ-loop
 same-length-2 c = (within-more _ _ _ (c .before .before .before .before .before .before .before .before .before .before .before .before .before .before .before .before .loop .inv .2) (c .before .before .before .before .before .before .before .before .before .judged .ensures .1)) .long
 
 returns-2 : tie.Need-returns-2 Inv-loop μ-loop
-returns-2 c =
-    (tells-spent _ _ (c .spent .result) _ (search needs) (c .spent .ensures)
-    (seek-over _ _ _ _ _ _ _ _ _ (c .before .before .before .before .before .before .before .before .before .before .before .before .before .before .before .before .loop .inv .0) (c .before .before .before .before .before .before .before .before .before .before .before .before .before .before .before .before .before .before .before .before .before .pre .4) _ (c .before .before .before .advance .result) _ (c .before .before .before .advance .ensures) (sym (c .before .before .before .before .before .before .before .before .before .judged .ensures .0)) (c .before .if3 .taken)), within-more _ _ _ (c .before .before .before .before .before .before .before .before .before .before .before .before .before .before .before .before .loop .inv .2) (c .before .before .before .before .before .before .before .before .before .judged .ensures .1))
+returns-2 c = (
+  tells-spent _ _ (c .spent .result) _ (search needs) (c .spent .ensures)
+      (seek-over _ _ _ _ _ _ _ _ _ (c .before .before .before .before .before .before .before .before .before .before .before .before .before .before .before .before .loop .inv .0) (c .before .before .before .before .before .before .before .before .before .before .before .before .before .before .before .before .before .before .before .before .before .pre .4) _ (c .before .before .before .advance .result) _ (c .before .before .before .advance .ensures) (sym (c .before .before .before .before .before .before .before .before .before .judged .ensures .0)) (c .before .if3 .taken)),
+  within-more _ _ _ (c .before .before .before .before .before .before .before .before .before .before .before .before .before .before .before .before .loop .inv .2) (c .before .before .before .before .before .before .before .before .before .judged .ensures .1),
+)
 
 none-requires : tie.Need-none-requires Inv-loop μ-loop
 none-requires c κs = tt
@@ -87,9 +91,11 @@ same-length-3 : tie.Need-same-length-3 Inv-loop μ-loop
 same-length-3 c = (within-more _ _ _ (c .before .before .before .before .before .before .before .before .before .before .before .before .before .before .before .before .before .before .before .loop .inv .2) (c .before .before .before .before .before .before .before .before .before .before .before .before .judged .ensures .1)) .long
 
 returns-3 : tie.Need-returns-3 Inv-loop μ-loop
-returns-3 c =
-    (tells-none _ _ (c .none .result) _ (search needs) (c .none .ensures)
-    (seek-none _ _ _ _ _ _ _ _ _ (c .before .before .before .before .before .before .before .before .before .before .before .before .before .before .before .before .before .before .before .loop .inv .0) (c .before .before .before .before .before .before .before .before .before .before .before .before .before .before .before .before .before .before .before .before .before .before .before .before .pre .4) _ (c .before .before .before .before .before .before .advance .result) _ (c .before .before .before .before .before .before .advance .ensures) (sym (c .before .before .before .before .before .before .before .before .before .before .before .before .judged .ensures .0)) (c .before .before .before .before .if3 .left) (c .before .before .if4 .taken) (c .before .if5 .taken)), within-more _ _ _ (c .before .before .before .before .before .before .before .before .before .before .before .before .before .before .before .before .before .before .before .loop .inv .2) (c .before .before .before .before .before .before .before .before .before .before .before .before .judged .ensures .1))
+returns-3 c = (
+  tells-none _ _ (c .none .result) _ (search needs) (c .none .ensures)
+      (seek-none _ _ _ _ _ _ _ _ _ (c .before .before .before .before .before .before .before .before .before .before .before .before .before .before .before .before .before .before .before .loop .inv .0) (c .before .before .before .before .before .before .before .before .before .before .before .before .before .before .before .before .before .before .before .before .before .before .before .before .pre .4) _ (c .before .before .before .before .before .before .advance .result) _ (c .before .before .before .before .before .before .advance .ensures) (sym (c .before .before .before .before .before .before .before .before .before .before .before .before .judged .ensures .0)) (c .before .before .before .before .if3 .left) (c .before .before .if4 .taken) (c .before .if5 .taken)),
+  within-more _ _ _ (c .before .before .before .before .before .before .before .before .before .before .before .before .before .before .before .before .before .before .before .loop .inv .2) (c .before .before .before .before .before .before .before .before .before .before .before .before .judged .ensures .1),
+)
 
 add-n : tie.Need-add-n Inv-loop μ-loop
 add-n c = omega (arith, c .before .before .before .before .before .before .before .before .before .before .before .before .before .before .before .before .before .before .loop .inv .0 .range, c .before .before .before .before .before .before .before .before .before .before .before .before .before .before .before .before .before .before .loop .inv .0 .top)
@@ -101,17 +107,21 @@ loop-less : tie.Need-loop-less Inv-loop μ-loop
 loop-less c = rw (c .again .ensures) (omega (arith, c .before .before .before .before .before .before .advance .ensures .more, c .before .before .before .before .before .before .before .before .before .before .before .before .before .before .before .before .before .if1 .taken))
 
 loop-again : tie.Need-loop-again Inv-loop μ-loop
-loop-again c =
-    (rw (c .again .ensures) (seek-length _ _ _ _ _ _ _ _ _ (c .before .before .before .before .before .before .before .before .before .before .before .before .before .before .before .before .before .before .before .loop .inv .0) (c .before .before .before .before .before .before .before .before .before .before .before .before .before .before .before .before .before .before .before .before .before .before .before .before .pre .4) _ (c .before .before .before .before .before .before .advance .result) _ (c .before .before .before .before .before .before .advance .ensures) (sym (c .before .before .before .before .before .before .before .before .before .before .before .before .judged .ensures .0)) (c .before .before .before .before .if3 .left) (c .before .before .if4 .taken) (c .before .if5 .left)),
-    c .before .before .before .before .before .before .advance .ensures .tallies ∙ c .before .before .before .before .before .before .before .before .before .before .before .before .before .before .before .before .before .before .before .loop .inv .1, within-more _ _ _ (c .before .before .before .before .before .before .before .before .before .before .before .before .before .before .before .before .before .before .before .loop .inv .2) (c .before .before .before .before .before .before .before .before .before .before .before .before .judged .ensures .1))
+loop-again c = (
+  rw (c .again .ensures) (seek-length _ _ _ _ _ _ _ _ _ (c .before .before .before .before .before .before .before .before .before .before .before .before .before .before .before .before .before .before .before .loop .inv .0) (c .before .before .before .before .before .before .before .before .before .before .before .before .before .before .before .before .before .before .before .before .before .before .before .before .pre .4) _ (c .before .before .before .before .before .before .advance .result) _ (c .before .before .before .before .before .before .advance .ensures) (sym (c .before .before .before .before .before .before .before .before .before .before .before .before .judged .ensures .0)) (c .before .before .before .before .if3 .left) (c .before .before .if4 .taken) (c .before .if5 .left)),
+  c .before .before .before .before .before .before .advance .ensures .tallies ∙ c .before .before .before .before .before .before .before .before .before .before .before .before .before .before .before .before .before .before .before .loop .inv .1,
+  within-more _ _ _ (c .before .before .before .before .before .before .before .before .before .before .before .before .before .before .before .before .before .before .before .loop .inv .2) (c .before .before .before .before .before .before .before .before .before .before .before .before .judged .ensures .1),
+)
 
 loop-less-2 : tie.Need-loop-less-2 Inv-loop μ-loop
 loop-less-2 c = omega (arith, c .before .before .before .before .advance .ensures .more, c .before .before .before .before .before .before .before .before .before .before .before .before .before .before .before .if1 .taken)
 
 loop-again-2 : tie.Need-loop-again-2 Inv-loop μ-loop
-loop-again-2 c =
-    (seek-next _ _ _ _ _ _ _ _ _ (c .before .before .before .before .before .before .before .before .before .before .before .before .before .before .before .before .before .loop .inv .0) (c .before .before .before .before .before .before .before .before .before .before .before .before .before .before .before .before .before .before .before .before .before .before .pre .4) _ (c .before .before .before .before .advance .result) _ (c .before .before .before .before .advance .ensures) (sym (c .before .before .before .before .before .before .before .before .before .before .judged .ensures .0)) (c .before .before .if3 .left) (c .if4 .left),
-    c .before .before .before .before .advance .ensures .tallies ∙ c .before .before .before .before .before .before .before .before .before .before .before .before .before .before .before .before .before .loop .inv .1, within-more _ _ _ (c .before .before .before .before .before .before .before .before .before .before .before .before .before .before .before .before .before .loop .inv .2) (c .before .before .before .before .before .before .before .before .before .before .judged .ensures .1))
+loop-again-2 c = (
+  seek-next _ _ _ _ _ _ _ _ _ (c .before .before .before .before .before .before .before .before .before .before .before .before .before .before .before .before .before .loop .inv .0) (c .before .before .before .before .before .before .before .before .before .before .before .before .before .before .before .before .before .before .before .before .before .before .pre .4) _ (c .before .before .before .before .advance .result) _ (c .before .before .before .before .advance .ensures) (sym (c .before .before .before .before .before .before .before .before .before .before .judged .ensures .0)) (c .before .before .if3 .left) (c .if4 .left),
+  c .before .before .before .before .advance .ensures .tallies ∙ c .before .before .before .before .before .before .before .before .before .before .before .before .before .before .before .before .before .loop .inv .1,
+  within-more _ _ _ (c .before .before .before .before .before .before .before .before .before .before .before .before .before .before .before .before .before .loop .inv .2) (c .before .before .before .before .before .before .before .before .before .before .judged .ensures .1),
+)
 
 spent-requires-2 : tie.Need-spent-requires-2 Inv-loop μ-loop
 spent-requires-2 c κs = tt

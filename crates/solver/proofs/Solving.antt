@@ -1,0 +1,87 @@
+-- What is said where the sheet is refused, where too little is lent, and where the search has ended.
+use Prim.Native.Nat.{ℕ, zero, suc, _<_, _≤_}
+use mathlib.Core.Path.{_≡_, refl, sym, ap, fun-ext, _∙_}
+use mathlib.Core.Bool.{Bool}
+use mathlib.Core.List.{List, _++_}
+use native.Mathlib.Omega.{arith}
+use borrow.Author.Tests.{le-leb, lt-leb, eq-eqb, ne-eqb}
+use lib.ListN.{length, getD, drop, replicate}
+use Rattle.paper.specs.Trailer.{longest, shortest}
+use Rattle.paper.specs.Refusals.{refusal}
+use Rattle.paper.specs.Sheet.{sheetOf, letter}
+use Rattle.paper.specs.Opens.{opens}
+use Rattle.paper.specs.Walk.{walk}
+use Rattle.paper.specs.Answers.{Said, Refused, Report, reportOf, outAfter, workAfter, words, zeroed, under, walkOf, solverRefusal, solverSays}
+use Rattle.paper.proofs.Meaning.{answer-means}
+use Rattle.chart.specs.Cells.{Within}
+use Rattle.walk.specs.Letters.{hasLetter}
+use Rattle.walk.specs.Counts.{Small}
+use Rattle.walk.specs.Progress.{Classes}
+use Rattle.solver.specs.Reported.{refused}
+use Rattle.solver.specs.Promise.{says}
+use Rattle.solver.proofs.Demands.{work-zeroed}
+
+-- ---- the walk of the search is the sheet's
+
+lengths-are : (s : List ℕ) → (shortest s ≡ sheetOf s .shortest) × (longest s ≡ sheetOf s .longest)
+unfolding sheetOf
+lengths-are s = (refl, refl)
+
+walk-is : (s : List ℕ) → walk (letter (sheetOf s)) (opens (sheetOf s)) (sheetOf s .shortest) (sheetOf s .longest) ≡ walkOf (sheetOf s)
+unfolding walkOf
+walk-is s = refl
+
+pub walk-same : (s of : List ℕ) (budget lo hi : ℕ) → ((b : ℕ) → hasLetter of b ≡ letter (sheetOf s) b) → lo ≡ shortest s → hi ≡ longest s
+    → under budget (walk (hasLetter of) (opens (sheetOf s)) lo hi) ≡ under budget (walkOf (sheetOf s))
+walk-same s of budget lo hi h e f =
+    ap (λ (is : ℕ → Bool). under budget (walk is (opens (sheetOf s)) lo hi)) (fun-ext h)
+    ∙ ap (λ (k : ℕ). under budget (walk (letter (sheetOf s)) (opens (sheetOf s)) k hi)) (e ∙ lengths-are s .0)
+    ∙ ap (λ (k : ℕ). under budget (walk (letter (sheetOf s)) (opens (sheetOf s)) (sheetOf s .shortest) k)) (f ∙ lengths-are s .1)
+    ∙ ap (under budget) (walk-is s)
+
+-- ---- no letter is passed over yet
+
+none-at : (n b : ℕ) → _≡_ {A = ℕ} (getD (replicate n 0) b 0) 0
+none-at zero b = refl
+none-at (suc n) zero = refl
+none-at (suc n) (suc b) = none-at n b
+
+pub no-classes : (n : ℕ) (o : ℕ → List ℕ → Bool) → Classes o (replicate n 0)
+no-classes n o b c l m p e = absurd (omega (arith, none-at n b))
+
+pub no-slots : (n : ℕ) → Small (replicate n 0)
+no-slots n b = omega (arith, none-at n b)
+
+-- ---- the workspace is cleared
+
+zeroed-same : (u w : List ℕ) → drop words w ≡ drop words u → zeroed words w ≡ zeroed words u
+unfolding zeroed
+zeroed-same u w r = rw r
+
+pub cleared-same : (s : List ℕ) (budget : ℕ) (work w v : List ℕ) → Within work w → v ≡ zeroed words w → v ≡ workAfter (under budget (walkOf (sheetOf s))) work
+cleared-same s budget work w v k e =
+    e ∙ zeroed-same work w (k .rest) ∙ sym (work-zeroed (sheetOf s) budget work (under budget (walkOf (sheetOf s))) (answer-means (sheetOf s) budget))
+
+-- ---- refusals
+
+module _ (s : List ℕ) (budget : ℕ) (work out : List ℕ) where
+  -- a refusal as the promise words it
+  pub refusing : (n : ℕ) → says s budget work out ≡ Refused n
+      → (refused n ≡ reportOf (says s budget work out)) × ((work ≡ workAfter (says s budget work out) work) × (out ≡ outAfter (says s budget work out) out))
+  refusing n e = rw e (refl, (refl, refl))
+
+  pub says-sheet : (n : ℕ) → refusal s ≡ n → 0 < n → says s budget work out ≡ Refused n
+  unfolding solverSays solverRefusal
+  says-sheet n e h = rw (e, ne-eqb n 0 (λ q. omega arith), ne-eqb n 0 (λ q. omega arith))
+
+  pub says-18 : refusal s ≡ 0 → length work < 7564 → says s budget work out ≡ Refused 18
+  unfolding solverSays solverRefusal words
+  says-18 a h = rw (eq-eqb (refusal s) 0 a, lt-leb 7564 (length work) h)
+
+  pub says-19 : refusal s ≡ 0 → 7564 ≤ length work → length out < longest s → says s budget work out ≡ Refused 19
+  unfolding solverSays solverRefusal words
+  says-19 a h l = rw (eq-eqb (refusal s) 0 a, le-leb 7564 (length work) h, lt-leb (longest s) (length out) l)
+
+  pub says-answer : refusal s ≡ 0 → 7564 ≤ length work → longest s ≤ length out → says s budget work out ≡ under budget (walkOf (sheetOf s))
+  unfolding solverSays solverRefusal words
+  says-answer a h l = rw (eq-eqb (refusal s) 0 a, le-leb 7564 (length work) h, le-leb (longest s) (length out) l)
