@@ -1,4 +1,6 @@
-pub mod Limits
 pub mod Each
 pub mod OptionLaws
 pub mod ListLaws
+pub mod Formed
+pub mod Stages
+pub mod Alone

@@ -1,6 +1,6 @@
--- A list's heads and groups, one after the other.
+-- A list's numbers, and its heads and groups, one after the other.
 -- Assumes nothing.
-use Prim.Native.Nat.{ℕ, zero, suc, _+_, _*_, _≤_}
+use Prim.Native.Nat.{ℕ, zero, suc, _+_, _*_, _≤_, _<_}
 use mathlib.Core.Path.{_≡_, refl, sym, _∙_}
 use mathlib.Core.Bool.{Bool, true, false, _&&_}
 use mathlib.Core.List.{List}
@@ -8,13 +8,19 @@ use native.Mathlib.Numerals.{add-one}
 use native.Mathlib.Nat.{not-suc-le-zero}
 use native.Mathlib.Omega.{arith}
 use lib.Dec.{leb}
+use lib.ListN.{getD}
 use borrow.Author.Tests.{eq-eqb, ne-eqb, leb-true}
 use Rattle.paper.specs.Tests.{allBelow}
 use Rattle.paper.specs.Gate.{rowsOf, trailerOf, groupAt, optionCount, headEnd, headAt, headOk, entryOk, groupBegin, groupOk}
-use Rattle.paper.specs.Bytes.{u32At}
+use Rattle.paper.specs.Bytes.{u16At, u32At}
 use Rattle.paper.proofs.Tests.{and-left, all-elim}
 use Rattle.gate.specs.declared.list.Past.the-variants.{End, Broken}
 use Rattle.gate.specs.Read.{pastOf, optionFrom}
+
+-- four bytes make a number of 32 bits
+pub u32-small : (l : List ℕ) (o : ℕ) → ((i : ℕ) → getD l i 0 < 256) → u32At l o < 4294967296
+unfolding u32At u16At
+u32-small l o f = omega (arith, f o, f (o + 1), f (o + 2), f (o + 2 + 1))
 
 -- what was looked at keeps its rule, and ends there
 pub past-end : (b : Bool) (x e : ℕ) → pastOf b x ≡ End e → (b ≡ true) × (x ≡ e)

@@ -5,9 +5,12 @@ use mathlib.Core.Bool.{Bool, true, false}
 use mathlib.Core.List.{List}
 use lib.ListN.{length}
 use Rattle.paper.specs.Bytes.{u8At, u16At}
-use Rattle.paper.specs.Gate.{nOf, rowsOf, rootOf, trailerOf, optionOk}
+use Rattle.paper.specs.Cuts.{Opt, Byte, Stretch, Split, Nil}
+use Rattle.paper.specs.Gate.{nOf, rowsOf, rootOf, trailerOf, optionOk, wellFormed}
 use Rattle.gate.specs.declared.fields.Trailer.{Trailer}
 use Rattle.gate.specs.declared.fields.Fields.{Fields}
+use Rattle.gate.specs.declared.fields.Choice.{Choice}
+use Rattle.gate.specs.declared.fields.Choice.the-variants as choice
 use Rattle.gate.specs.declared.list.Past.{Past}
 use Rattle.gate.specs.declared.list.Past.the-variants.{End, Broken}
 
@@ -32,6 +35,19 @@ pub record Fielded (l : List ℕ) (o : ℕ) (f : Fields) : Type 0 where
   pub b-is : f .b ≡ u16At l (o + 4)
   pub a-small : f .a < 65536
   pub b-small : f .b < 65536
+
+-- the option that a choice is
+abbrev pub optionOf : Choice → Opt
+optionOf (choice.Byte lo hi) = Byte lo hi
+optionOf (choice.Stretch off len) = Stretch off len
+optionOf (choice.Split k a b) = Split k a b
+optionOf choice.Nil = Nil
+
+-- a list that is well formed with the text, a word of its length, and room for the table
+pub record Readable (l text word work : List ℕ) : Type 0 where
+  pub formed : wellFormed l (length text) ≡ true
+  pub fit : length word ≡ nOf l
+  pub room : 7564 ≤ length work
 
 -- option j of those from o on obeys
 abbrev pub optionFrom : List ℕ → (text m o j : ℕ) → Bool

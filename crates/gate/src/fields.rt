@@ -6,8 +6,8 @@ ghost use lib.ListN.{length};
 ghost use lib.Dec.{leb, ltb};
 ghost use Rattle.paper.specs.Bytes.{u16At, u32At, markAt};
 ghost use Rattle.paper.specs.Trailer.{limit};
-ghost use Rattle.paper.specs.Gate.{nOf, rowsOf, rootOf, trailerOk};
-ghost use Rattle.gate.specs.Read.{Trailed, Fielded};
+ghost use Rattle.paper.specs.Gate.{nOf, rowsOf, rootOf, trailerOk, optOf};
+ghost use Rattle.gate.specs.Read.{Trailed, Fielded, optionOf};
 
 pub fn wide(x: u8) -> usize
     ensures { λ r. ⌜ (r ≡ x) × (r < 256) ⌝ }
@@ -136,4 +136,26 @@ pub fn fields_at(list: &[u8], o: usize) -> Fields
     let a = u16_at(list, o + 2);
     let b = u16_at(list, o + 4);
     Fields { kind, k, a, b }
+}
+
+// An option: one byte, a stretch of the text, the first k bytes by one row and the rest by another, or no byte.
+pub enum Choice {
+    Byte(usize, usize),
+    Stretch(usize, usize),
+    Split(usize, usize, usize),
+    Nil,
+}
+
+pub fn choice_at(list: &[u8], o: usize) -> Choice
+    requires { ⌜ o + 8 ≤ length (now list) ⌝ }
+    ensures { λ x. ⌜ optionOf x ≡ optOf (now (list .entry)) o ⌝ }
+{
+    let f = fields_at(list, o);
+    let kind = f.kind;
+    match kind {
+        1 => Choice::Byte(f.a, f.b),
+        2 => Choice::Stretch(f.a, f.b),
+        3 => Choice::Split(f.k, f.a, f.b),
+        0 | 4..=255 => Choice::Nil,
+    }
 }

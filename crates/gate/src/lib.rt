@@ -1,3 +1,35 @@
 // The gate: reads any well-formed cut list and says whether the list accepts a word. It knows nothing of sheets or solving.
-pub mod fields;
-pub mod list;
+pub mod answer;
+mod fields;
+mod list;
+mod marks;
+
+pub use answer::Gate;
+pub use answer::number;
+pub use list::well_formed;
+ghost use mathlib.Core.Path.{_≡_};
+ghost use lib.ListN.{length};
+ghost use Rattle.paper.specs.Answers.{gateSays, gateLeaves};
+ghost use Rattle.gate.specs.Number.{numberOf};
+
+// Whether the list accepts the word, with the text: on any list, text, word and workspace.
+pub fn gate(list: &[u8], text: &[u8], word: &[u8], work: &mut [u64]) -> Gate
+    ensures { λ r. ⌜ numberOf r ≡ gateSays (now (list .entry)) (now (text .entry)) (now (word .entry)) (length (now (work .entry))) ⌝ }
+    ensures { λ r. ⌜ now (work .exit) ≡ gateLeaves (numberOf r) (now (work .entry)) ⌝ }
+{
+    if !list::well_formed(list, text.len()) {
+        return Gate::Malformed;
+    }
+    let n = fields::trailer_of(list).n;
+    if word.len() != n {
+        return Gate::Length;
+    }
+    if work.len() < paper::WORDS {
+        return Gate::Workspace;
+    }
+    if marks::read(list, text, word, work) {
+        Gate::Yes
+    } else {
+        Gate::No
+    }
+}

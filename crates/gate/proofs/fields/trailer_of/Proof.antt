@@ -2,13 +2,14 @@ use native.Mathlib.Omega.{arith}
 use lib.ListN.{length}
 use Prim.Native.Nat.{_-_}
 use Rattle.paper.specs.Gate.{trailerOf}
-use Rattle.gate.proofs.Limits.{Limits, limits, u32-small}
+use Rattle.paper.proofs.WellFormed.{Trailer, trailer-of}
+use Rattle.gate.proofs.ListLaws.{u32-small}
 use borrow.Author.Needs.{needs}
 use Rattle.gate.proofs.fields.trailer_of.Statement.{statement}
 use Rattle.gate.proofs.fields.trailer_of.Tie as tie
 
-known : (p : tie.Start) → Limits (p .args .list .now)
-known p = limits _ (p .pre .1)
+known : (p : tie.Start) → Trailer (p .args .list .now)
+known p = trailer-of _ (p .pre .1)
 
 sub-wide : tie.Need-sub-wide
 sub-wide c = search needs

@@ -1,0 +1,120 @@
+use borrow.Author.Needs.{needs}
+use lib.ListN.{length}
+use native.Mathlib.Omega.{arith}
+use mathlib.Core.Path.{_≡_, refl, sym, ap, _∙_, subst}
+use Prim.Native.Nat.{_-_, _≤_, _<_}
+use Rattle.paper.proofs.WellFormed.{formed}
+use Rattle.gate.proofs.Stages.{turn-none, turn-more, mark-at, mark-head}
+use Rattle.gate.proofs.Formed.{head-inside, option-inside}
+use Rattle.gate.specs.Marks.{inTurn, markAt, markOption}
+use Rattle.gate.specs.Read.{optionOf}
+use Rattle.paper.proofs.Obeys.{Obeys}
+use Rattle.paper.specs.Gate.{headEnd, optionCount}
+use Rattle.gate.proofs.marks.mark_head.Statement.{statement}
+use Rattle.gate.proofs.marks.mark_head.Tie as tie
+
+abbrev Inv-loop : tie.InvT-loop
+Inv-loop list text word work₀ m r o count j₀ work j =
+    (j ≤ count) × (work ≡ inTurn j (markAt list text word m r) work₀) × (length work ≡ length work₀)
+
+abbrev μ-loop : tie.MeasureT-loop
+μ-loop list text word work₀ m r o count j₀ work j =
+    count - j
+
+inside : (p : tie.Start Inv-loop μ-loop) → headEnd (p .args .list .now) (p .args .o) ≤ length (p .args .list .now)
+inside p = head-inside _ _ (p .pre .0 .formed) _ _ _ (p .pre .1) (p .pre .2) (p .pre .3)
+
+add-u32-at : tie.Need-add-u32-at Inv-loop μ-loop
+add-u32-at c =
+    omega (arith, inside (c .before .before .before .before))
+
+u32-at-requires : tie.Need-u32-at-requires Inv-loop μ-loop
+u32-at-requires c κs =
+    omega (arith, inside (c .before .before .before .before))
+
+loop-holds : tie.Need-loop-holds Inv-loop μ-loop
+loop-holds c =
+    (omega arith, sym (turn-none _ _), refl)
+
+add-choice-at : tie.Need-add-choice-at Inv-loop μ-loop
+add-choice-at c =
+    omega (arith, inside (c .before .before .before .before .before .before .before))
+
+mul-choice-at : tie.Need-mul-choice-at Inv-loop μ-loop
+mul-choice-at c =
+    omega (arith, inside (c .before .before .before .before .before .before .before), c .before .before .u32-at .ensures .0)
+
+add-choice-at-2 : tie.Need-add-choice-at-2 Inv-loop μ-loop
+add-choice-at-2 c =
+    omega (arith, inside (c .before .before .before .before .before .before .before), c .before .before .u32-at .ensures .0)
+
+choice-at-requires : tie.Need-choice-at-requires Inv-loop μ-loop
+choice-at-requires c κs =
+    omega (arith, inside (c .before .before .before .before .before .before .before), c .before .before .u32-at .ensures .0)
+
+mark-option-requires : tie.Need-mark-option-requires Inv-loop μ-loop
+mark-option-requires c κs =
+    let a = c .before .before .before .before .before .before .before .before .before .args in
+    let w = c .before .before .before .before .before .before .before .before .before .pre .0 .formed in
+    let z : c .before .before .before .loop .j < optionCount (a .list .now) (a .o) = omega (arith, c .before .before .before .before .u32-at .ensures .0) in
+    let t = formed (a .list .now) (length (a .text .now)) w .trailer in
+    (subst (λ x. Obeys (length (a .text .now)) 256 (a .m) x) (sym (c .before .choice-at .ensures)) (option-inside _ _ w _ _ _ (c .before .before .before .before .before .before .before .before .before .pre .1) (c .before .before .before .before .before .before .before .before .before .pre .2) (c .before .before .before .before .before .before .before .before .before .pre .3) _ z), omega (arith, c .before .before .before .before .before .before .before .before .before .pre .0 .fit), omega (arith, c .before .before .before .before .before .before .before .before .before .pre .0 .fit, t .most), omega (arith, c .before .before .before .loop .inv .2, c .before .before .before .before .before .before .before .before .before .pre .0 .room), omega (arith, t .few))
+
+add-j : tie.Need-add-j Inv-loop μ-loop
+add-j c =
+    omega arith
+
+loop-less : tie.Need-loop-less Inv-loop μ-loop
+loop-less c =
+    omega arith
+
+loop-again : tie.Need-loop-again Inv-loop μ-loop
+loop-again c =
+    let a = c .before .before .before .before .before .before .before .before .before .before .before .before .args in
+    let t = c .before .before .mark-option in
+    let l = c .before .before .before .before .before .before .loop in
+    (omega arith, t .ensures ∙ ap (λ v. markOption (a .text .now) (a .word .now) (a .m) (a .r) (optionOf (c .before .before .before .before .choice-at .result)) v) (l .inv .1) ∙ mark-at _ _ _ _ _ _ (c .before .before .before .before .before .before .before .before .before .before .before .before .pre .3) _ _ _ (c .before .before .before .before .choice-at .ensures) ∙ sym (turn-more _ _ _), t .kept .1 .1 .0 ∙ l .inv .2)
+
+add-result : tie.Need-add-result Inv-loop μ-loop
+add-result c =
+    omega (arith, inside (c .before .before .before .before .before .before .before))
+
+mul-result : tie.Need-mul-result Inv-loop μ-loop
+mul-result c =
+    omega (arith, inside (c .before .before .before .before .before .before .before), c .before .before .u32-at .ensures .0)
+
+add-result-2 : tie.Need-add-result-2 Inv-loop μ-loop
+add-result-2 c =
+    omega (arith, inside (c .before .before .before .before .before .before .before), c .before .before .u32-at .ensures .0)
+
+same-length : tie.Need-same-length Inv-loop μ-loop
+same-length c =
+    search needs
+
+returns : tie.Need-returns Inv-loop μ-loop
+returns c =
+    let e : c .before .loop .j ≡ optionCount (c .before .before .before .before .before .before .before .args .list .now) (c .before .before .before .before .before .before .before .args .o) = omega (arith, c .before .before .u32-at .ensures .0) in
+    (omega (arith, c .before .before .u32-at .ensures .0), c .before .loop .inv .1 ∙ mark-head _ _ _ _ _ _ (c .before .before .before .before .before .before .before .pre .3) _ _ e)
+
+pub mark-head-spec : {M : Type 1} → statement M
+mark-head-spec =
+    tie.close
+    (tie.spec
+    Inv-loop
+    μ-loop
+    add-u32-at
+    u32-at-requires
+    loop-holds
+    add-choice-at
+    mul-choice-at
+    add-choice-at-2
+    choice-at-requires
+    mark-option-requires
+    add-j
+    loop-less
+    loop-again
+    add-result
+    mul-result
+    add-result-2
+    same-length
+    returns)

@@ -1,0 +1,53 @@
+use native.Mathlib.Omega.{arith}
+use mathlib.Core.Path.{ap, _∙_}
+use Rattle.paper.proofs.WellFormed.{formed}
+use Rattle.gate.proofs.Stages.{marked-reads, marked-zeroed}
+use Rattle.gate.proofs.Formed.{right-trailer}
+use Rattle.gate.specs.Marks.{marked}
+use borrow.Author.Needs.{needs}
+use Rattle.gate.proofs.marks.read.Statement.{statement}
+use Rattle.gate.proofs.marks.read.Tie as tie
+
+trailer-of-requires : tie.Need-trailer-of-requires
+trailer-of-requires c κs =
+    right-trailer _ _ (c .before .before .before .before .pre .formed)
+
+clear-requires : tie.Need-clear-requires
+clear-requires c κs = search needs
+
+mark-groups-requires : tie.Need-mark-groups-requires
+mark-groups-requires c κs =
+    (record { formed = c .before .before .before .before .before .before .before .before .before .before .pre .formed; fit = c .before .before .before .before .before .before .before .before .before .before .pre .fit; room = omega (arith, c .before .before .before .clear .kept .0, c .before .before .before .before .before .before .before .before .before .before .pre .room) }, c .before .before .before .before .before .trailer-of .ensures .rows-are)
+
+span-requires : tie.Need-span-requires
+span-requires c κs = search needs
+
+test-requires : tie.Need-test-requires
+test-requires c κs = search needs
+
+answered-requires : tie.Need-answered-requires
+answered-requires c κs = search needs
+
+same-length : tie.Need-same-length
+same-length c = search needs
+
+returns : tie.Need-returns
+returns c =
+    let a = c .before .before .before .before .before .before .before .before .before .before .before .before .before .before .before .before .before .before .before .before .args in
+    let p = c .before .before .before .before .before .before .before .before .before .before .before .before .before .before .before .before .before .before .before .before .pre in
+    let f = formed _ _ (p .formed) in
+    let e = c .before .before .before .before .before .before .before .before .before .mark-groups .ensures ∙ ap (λ v. marked (a .list .now) (a .text .now) (a .word .now) v) (c .before .before .before .before .before .before .before .before .before .before .before .before .before .clear .ensures) in
+    (c .before .before .answered .ensures .0 ∙ c .before .before .before .before .test .ensures ∙ marked-reads _ _ _ f (p .fit) _ (p .room) _ e _ _ (c .before .before .before .before .before .before .span .ensures .0) (c .before .before .before .before .before .before .before .before .before .before .before .before .before .before .before .trailer-of .ensures .root-is), c .before .before .answered .ensures .1 ∙ marked-zeroed _ _ _ f (p .fit) _ (p .room) _ e)
+
+pub read-spec : {M : Type 1} → statement M
+read-spec =
+    tie.close
+    (tie.spec
+    trailer-of-requires
+    clear-requires
+    mark-groups-requires
+    span-requires
+    test-requires
+    answered-requires
+    same-length
+    returns)

@@ -1,0 +1,116 @@
+-- What the maker says and leaves: each refusal, and the list written.
+-- Assumes nothing.
+use Prim.Native.Nat.{ℕ, zero, suc, _+_, _*_, _≤_, _<_}
+use mathlib.Core.Path.{_≡_, refl, sym, ap}
+use mathlib.Core.List.{List, _++_}
+use native.Mathlib.Omega.{arith}
+use native.Mathlib.Numerals.{add-one}
+use lib.ListN.{length}
+use borrow.Author.Tests.{eq-eqb, ne-eqb, lt-ltb, le-ltb, le-leb, lt-leb}
+use Rattle.paper.specs.Bytes.{u16, u32}
+use Rattle.paper.specs.Tests.{gather}
+use Rattle.paper.specs.Trailer.{countOf, offsetOf}
+use Rattle.paper.specs.Refusals.{refusal}
+use Rattle.paper.specs.Rows.{Grammar}
+use Rattle.paper.specs.Sheet.{grammarOf}
+use Rattle.paper.specs.Cuts.{groups, listTrailer, cutList}
+use Rattle.paper.specs.Answers.{written, makerRefusal, makerSays, spaceAfter}
+use Rattle.paper.proofs.Encoding.{length-list}
+use Rattle.sheet.specs.declared.Trailer.{Trailer}
+use Rattle.sheet.specs.Readers.{trailerOf}
+use Rattle.sheet.proofs.Good.{good}
+use Rattle.maker.specs.declared.Made.{Made}
+use Rattle.maker.specs.declared.Made.the-variants.{Written, Refused}
+use Rattle.maker.specs.Parts.{Put, offsetBytes, mark, endingBytes, trailerBytes}
+use Rattle.maker.specs.Prepared.{Offsets, JobOf}
+use Rattle.maker.specs.Posts.{reportOf}
+use Rattle.maker.proofs.Stores.{put-more, put-same, put-written}
+
+-- ---- the trailer, and the whole list
+
+gather-same : (f h : ℕ → List ℕ) (i n : ℕ) → ((k : ℕ) → k < i + n → f k ≡ h k) → gather i n f ≡ gather i n h
+unfolding gather
+gather-same f h i zero e = refl
+gather-same f h i (suc n) e = rw (e i (omega arith), gather-same f h (suc i) n (λ k l. e k (omega arith)))
+
+module _ (g : Grammar) (root n : ℕ) (offsets : List ℕ) (x : Offsets g (n + 1) offsets) where
+  offsets-are : gather 0 (n + 1) (offsetBytes offsets) ≡ gather 0 (suc n) (λ m. u32 (length (groups g m)))
+  unfolding offsetBytes
+  offsets-are = rw add-one (gather-same (λ m. offsetBytes offsets m) (λ m. u32 (length (groups g m))) 0 (suc n) (λ k l. ap u32 (x .each k (omega arith))))
+
+  trailer-is : trailerBytes offsets root (length (g .rows)) n (length (groups g (suc n)) + (4 * n + 20)) ≡ listTrailer g root n
+  unfolding trailerBytes endingBytes listTrailer mark u16 u32
+  trailer-is = ap (λ (z : List ℕ). z ++ endingBytes root (length (g .rows)) n (length (groups g (suc n)) + (4 * n + 20))) offsets-are
+
+  list-is : (p rows : ℕ) → p ≡ length (groups g (n + 1)) → rows ≡ length (g .rows) → groups g (n + 1) ++ trailerBytes offsets root rows n (p + (4 * n + 20)) ≡ cutList g root n
+  unfolding cutList
+  list-is p rows e f = rw (e, f, add-one) (ap (λ (z : List ℕ). groups g (suc n) ++ z) trailer-is)
+
+pub list-length : (g : Grammar) (root n : ℕ) → length (groups g (n + 1)) + (4 * n + 20) ≡ length (cutList g root n)
+list-length g root n = rw add-one (sym (length-list g root n))
+
+-- ---- the numbers
+
+module _ (s : List ℕ) (row n space : ℕ) where
+  pub refused-sheet : (refusal s ≡ 0 → ⊥) → makerRefusal s row n space ≡ refusal s
+  unfolding makerRefusal
+  refused-sheet h = rw (ne-eqb (refusal s) 0 h)
+
+  module _ (a : refusal s ≡ 0) where
+    pub refused-row : countOf s 2 ≤ row → makerRefusal s row n space ≡ 20
+    unfolding makerRefusal
+    refused-row h = rw (eq-eqb (refusal s) 0 a, le-ltb row (countOf s 2) h)
+
+    module _ (b : row < countOf s 2) where
+      pub refused-length : 60 < n → makerRefusal s row n space ≡ 21
+      unfolding makerRefusal
+      refused-length h = rw (eq-eqb (refusal s) 0 a, lt-ltb row (countOf s 2) b, lt-leb n 60 h)
+
+      pub refused-space : n ≤ 60 → space < length (cutList (grammarOf s) row n) → makerRefusal s row n space ≡ 22
+      unfolding makerRefusal
+      refused-space c h = rw (eq-eqb (refusal s) 0 a, lt-ltb row (countOf s 2) b, le-leb n 60 c, lt-leb (length (cutList (grammarOf s) row n)) space h)
+
+      pub not-refused : n ≤ 60 → length (cutList (grammarOf s) row n) ≤ space → makerRefusal s row n space ≡ 0
+      unfolding makerRefusal
+      not-refused c h = rw (eq-eqb (refusal s) 0 a, lt-ltb row (countOf s 2) b, le-leb n 60 c, le-leb (length (cutList (grammarOf s) row n)) space h)
+
+-- ---- what is said, and what is left
+
+-- the two parts of the promise
+abbrev pub Answered : (s : List ℕ) (row n : ℕ) (old now : List ℕ) → Made → Type 0
+Answered s row n old now r = (reportOf r ≡ makerSays s row n (length old)) × (now ≡ spaceAfter s row n old)
+
+module _ (s : List ℕ) (row n : ℕ) (old : List ℕ) where
+  -- a refusal reports its number and changes nothing
+  pub answer-refused : (k : ℕ) → makerRefusal s row n (length old) ≡ k → (k ≡ 0 → ⊥) → Answered s row n old old (Refused k)
+  unfolding makerSays spaceAfter
+  answer-refused k e h = (rw (e, ne-eqb k 0 h), rw (e, ne-eqb k 0 h))
+
+  pub answer-written : (k : ℕ) (now : List ℕ) → makerRefusal s row n (length old) ≡ 0 → k ≡ length (cutList (grammarOf s) row n) → now ≡ written (cutList (grammarOf s) row n) old
+      → Answered s row n old now (Written k)
+  unfolding makerSays spaceAfter
+  answer-written k now e h w = (rw (e, h), rw e w)
+
+-- the groups and the trailer, written one behind the other, are the list
+pub written-list : (g : Grammar) (root n rows p end : ℕ) (offsets a b c : List ℕ) → Offsets g (n + 1) offsets → rows ≡ length (g .rows) → length (cutList g root n) ≤ length a
+    → Put (groups g (n + 1)) 0 a b p → Put (trailerBytes offsets root rows n (p + (4 * n + 20))) p b c end → c ≡ written (cutList g root n) a
+written-list g root n rows p end offsets a b c x e h f k = put-written h (put-same (list-is g root n offsets x p rows (omega (arith, f .stop)) e) (put-more f k))
+
+-- ---- the job of an accepted sheet
+
+trailer-rows : (s : List ℕ) (t : Trailer) → t ≡ trailerOf s → (t .rows ≡ countOf s 2) × (t .«rows_at» ≡ offsetOf s 2)
+unfolding trailerOf
+trailer-rows s t e = (ap (λ (r : Trailer). r .rows) e, ap (λ (r : Trailer). r .«rows_at») e)
+
+pub rows-count : (s : List ℕ) (t : Trailer) → t ≡ trailerOf s → t .rows ≡ countOf s 2
+rows-count s t e = trailer-rows s t e .0
+
+pub job-is : (s : List ℕ) (t : Trailer) (row n : ℕ) → t ≡ trailerOf s → refusal s ≡ 0 → row < t .rows → n ≤ 60 → JobOf s (record { at = t .«rows_at»; rows = t .rows; n = n })
+job-is s t row n e a h l = record {
+  accepted = a;
+  start = trailer-rows s t e .1;
+  count = rows-count s t e;
+  some = omega arith;
+  few = omega (arith, rows-count s t e, good s a .counts 2 (omega arith) .1);
+  short = l;
+}

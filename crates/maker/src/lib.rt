@@ -1,0 +1,104 @@
+// The maker of cut lists.
+mod bytes;
+mod groups;
+mod ready;
+mod sizes;
+
+ghost use mathlib.Core.Path.{_≡_};
+ghost use Prim.Native.Nat.{_+_, _*_, _≤_, _<_};
+ghost use lib.ListN.{length};
+ghost use Rattle.paper.specs.Tests.{gather};
+ghost use Rattle.paper.specs.Answers.{makerSays, spaceAfter};
+ghost use Rattle.maker.specs.Parts.{Put, offsetBytes, endingBytes, trailerBytes};
+ghost use Rattle.maker.specs.Prepared.{JobOf};
+ghost use Rattle.maker.specs.Posts.{reportOf};
+
+// Where the rows of an accepted sheet begin, how many there are, and the list's length.
+pub struct Job {
+    pub at: usize,
+    pub rows: usize,
+    pub n: usize,
+}
+
+// 0 with the list's length, or a refusal by its number.
+pub enum Made {
+    Written(usize),
+    Refused(u8),
+}
+
+// The offsets of the groups 0 to n at o.
+fn put_offsets(list: &mut [u8], o: usize, offsets: &[usize], n: usize) -> usize
+    requires { ⌜ (n < length (now offsets)) × (o + 4 * (n + 1) ≤ length (now list)) ⌝ }
+    ensures { λ r. ⌜ Put (gather 0 (n + 1) (offsetBytes (now (offsets .entry)))) o (now (list .entry)) (now (list .exit)) r ⌝ }
+{
+    let mut p = o;
+    let mut m = 0;
+    while m <= n {
+        p = bytes::put_u32(list, p, offsets[m]);
+        m += 1;
+    }
+    p
+}
+
+// The trailer's last 16 bytes at o.
+fn put_ending(list: &mut [u8], o: usize, j: Job, root: usize, total: usize) -> usize
+    requires { ⌜ (j .n ≤ 60) × (o + 16 ≤ length (now list)) ⌝ }
+    ensures { λ r. ⌜ Put (endingBytes root (j .rows) (j .n) total) o (now (list .entry)) (now (list .exit)) r ⌝ }
+{
+    let a = bytes::put_u16(list, o, root);
+    let b = bytes::put_u16(list, a, j.rows);
+    let c = bytes::put_pair(list, b, j.n as u8, 0);
+    let d = bytes::put_pair(list, c, 0, 0);
+    let e = bytes::put_u32(list, d, total);
+    bytes::put_mark(list, e)
+}
+
+// The trailer at o.
+fn put_trailer(list: &mut [u8], o: usize, offsets: &[usize], j: Job, root: usize) -> usize
+    requires { ⌜ (j .n ≤ 60) × (61 ≤ length (now offsets)) × (o + (4 * j .n + 20) ≤ length (now list)) ⌝ }
+    ensures { λ r. ⌜ Put (trailerBytes (now (offsets .entry)) root (j .rows) (j .n) (o + (4 * j .n + 20))) o (now (list .entry)) (now (list .exit)) r ⌝ }
+{
+    let p = put_offsets(list, o, offsets, j.n);
+    put_ending(list, p, j, root, o + (4 * j.n + 20))
+}
+
+// 22, or the list, of an accepted sheet, a row of it and a length of at most 60.
+fn fill(s: &[u8], j: Job, root: usize, list: &mut [u8]) -> Made
+    requires { ⌜ JobOf (now s) j × (root < j .rows) ⌝ }
+    ensures { λ r. ⌜ (reportOf r ≡ makerSays (now (s .entry)) root (j .n) (length (now (list .entry)))) × (now (list .exit) ≡ spaceAfter (now (s .entry)) root (j .n) (now (list .entry))) ⌝ }
+{
+    let mut ws = [0u64; 1268];
+    ready::prepare(s, j, &mut ws);
+    let mut offsets = [0usize; 61];
+    let end = sizes::measure(s, &ws, j, &mut offsets);
+    let total = end + (4 * j.n + 20);
+    if list.len() < total {
+        return Made::Refused(22);
+    }
+    let p = groups::put_groups(s, &ws, list, j);
+    put_trailer(list, p, &offsets, j, root);
+    Made::Written(total)
+}
+
+// The cut list of a sheet's row for the length n, at the start of the space lent.
+pub fn make(s: &[u8], row: u64, n: u64, list: &mut [u8]) -> Made
+    ensures { λ r. ⌜ (reportOf r ≡ makerSays (now (s .entry)) row n (length (now (list .entry)))) × (now (list .exit) ≡ spaceAfter (now (s .entry)) row n (now (list .entry))) ⌝ }
+{
+    let fault = sheet::number(sheet::check(s));
+    if fault != 0 {
+        return Made::Refused(fault);
+    }
+    let t = sheet::trailer_of(s);
+    if row >= t.rows as u64 {
+        return Made::Refused(20);
+    }
+    if n > 60 {
+        return Made::Refused(21);
+    }
+    let j = Job {
+        at: t.rows_at,
+        rows: t.rows,
+        n: n as usize,
+    };
+    fill(s, j, row as usize, list)
+}
