@@ -1,11 +1,11 @@
 -- What is said where the sheet is refused, where too little is lent, and where the search has ended.
-use Prim.Native.Nat.{ℕ, zero, suc, _<_, _≤_}
-use mathlib.Core.Path.{_≡_, refl, sym, ap, fun-ext, _∙_}
+use Prim.Native.Nat.{ℕ, _<_, _≤_}
+use mathlib.Core.Path.{_≡_, refl, sym, ap, fun-ext, transport, _∙_}
 use mathlib.Core.Bool.{Bool}
 use mathlib.Core.List.{List, _++_}
 use native.Mathlib.Omega.{arith}
 use borrow.Author.Tests.{le-leb, lt-leb, eq-eqb, ne-eqb}
-use lib.ListN.{length, getD, drop, replicate}
+use lib.ListN.{length, drop}
 use Rattle.paper.specs.Trailer.{longest, shortest}
 use Rattle.paper.specs.Refusals.{refusal}
 use Rattle.paper.specs.Sheet.{sheetOf, letter}
@@ -15,8 +15,8 @@ use Rattle.paper.specs.Answers.{Said, Refused, Report, reportOf, outAfter, work
 use Rattle.paper.proofs.Meaning.{answer-means}
 use Rattle.chart.specs.Cells.{Within}
 use Rattle.walk.specs.Letters.{hasLetter}
-use Rattle.walk.specs.Counts.{Small}
-use Rattle.walk.specs.Progress.{Classes}
+use Rattle.search.specs.Tells.{Tells}
+use Rattle.search.specs.declared.Sought.{Sought}
 use Rattle.solver.specs.Reported.{refused}
 use Rattle.solver.specs.Promise.{says}
 use Rattle.solver.proofs.Demands.{work-zeroed}
@@ -31,7 +31,7 @@ walk-is : (s : List ℕ) → walk (letter (sheetOf s)) (opens (sheetOf s)) (shee
 unfolding walkOf
 walk-is s = refl
 
-pub walk-same : (s of : List ℕ) (budget lo hi : ℕ) → ((b : ℕ) → hasLetter of b ≡ letter (sheetOf s) b) → lo ≡ shortest s → hi ≡ longest s
+walk-same : (s of : List ℕ) (budget lo hi : ℕ) → ((b : ℕ) → hasLetter of b ≡ letter (sheetOf s) b) → lo ≡ shortest s → hi ≡ longest s
     → under budget (walk (hasLetter of) (opens (sheetOf s)) lo hi) ≡ under budget (walkOf (sheetOf s))
 walk-same s of budget lo hi h e f =
     ap (λ (is : ℕ → Bool). under budget (walk is (opens (sheetOf s)) lo hi)) (fun-ext h)
@@ -39,18 +39,11 @@ walk-same s of budget lo hi h e f =
     ∙ ap (λ (k : ℕ). under budget (walk (letter (sheetOf s)) (opens (sheetOf s)) (sheetOf s .shortest) k)) (f ∙ lengths-are s .1)
     ∙ ap (under budget) (walk-is s)
 
--- ---- no letter is passed over yet
-
-none-at : (n b : ℕ) → _≡_ {A = ℕ} (getD (replicate n 0) b 0) 0
-none-at zero b = refl
-none-at (suc n) zero = refl
-none-at (suc n) (suc b) = none-at n b
-
-pub no-classes : (n : ℕ) (o : ℕ → List ℕ → Bool) → Classes o (replicate n 0)
-no-classes n o b c l m p e = absurd (omega (arith, none-at n b))
-
-pub no-slots : (n : ℕ) → Small (replicate n 0)
-no-slots n b = omega (arith, none-at n b)
+pub tells-same : (s of : List ℕ) (budget lo hi : ℕ) (r : Sought) → ((b : ℕ) → hasLetter of b ≡ letter (sheetOf s) b) → lo ≡ shortest s → hi ≡ longest s
+    → Tells hi (under budget (walk (hasLetter of) (opens (sheetOf s)) lo hi)) r → Tells (longest s) (under budget (walkOf (sheetOf s))) r
+tells-same s of budget lo hi r h e f t =
+    transport (ap (λ (k : ℕ). Tells k (under budget (walkOf (sheetOf s))) r) f)
+    (transport (ap (λ (a : Said). Tells hi a r) (walk-same s of budget lo hi h e f)) t)
 
 -- ---- the workspace is cleared
 

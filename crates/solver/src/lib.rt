@@ -6,7 +6,8 @@ ghost use Rattle.paper.specs.Trailer.{longest};
 ghost use Rattle.paper.specs.Refusals.{refusal};
 ghost use Rattle.paper.specs.Sheet.{sheetOf};
 ghost use Rattle.paper.specs.Answers.{written, reportOf, outAfter, workAfter, under, walkOf};
-ghost use Rattle.search.specs.Tells.{foundReport};
+ghost use Rattle.chart.specs.Cells.{Within};
+ghost use Rattle.search.specs.Tells.{Tells, foundReport};
 ghost use Rattle.solver.specs.Reported.{reported};
 ghost use Rattle.solver.specs.Promise.{says};
 
@@ -53,6 +54,20 @@ fn tell(r: search::Sought) -> Solved
     }
 }
 
+// The sheet's walk under the budget, letters that nothing tells apart passed over.
+fn searched(s: &[u8], budget: u64, work: &mut [u64]) -> search::Sought
+    requires { ⌜ (refusal (now s) ≡ 0) × (7564 ≤ length (now work)) ⌝ }
+    ensures { λ r. ⌜ Tells (longest (now (s .entry))) (under budget (walkOf (sheetOf (now (s .entry))))) r × Within (now (work .entry)) (now (work .exit)) ⌝ }
+{
+    let mut lay = [0u64; 1306];
+    groundwork::lay(s, &mut lay);
+    let l = search::letters::letters_of(s);
+    let slots = alike::slots_of(s);
+    let lo = trailer::field(s, 0);
+    let hi = trailer::field(s, 1);
+    search::seek(s, l, &slots.of, lo, hi, budget, &lay, work)
+}
+
 // The answer of an accepted sheet, lent enough.
 fn answer(s: &[u8], budget: u64, work: &mut [u64], out: &mut [u8]) -> Solved
     requires { ⌜ (refusal (now s) ≡ 0) × (7564 ≤ length (now work)) × (longest (now s) ≤ length (now out)) ⌝ }
@@ -60,13 +75,7 @@ fn answer(s: &[u8], budget: u64, work: &mut [u64], out: &mut [u8]) -> Solved
     ensures cleared { λ r. ⌜ now (work .exit) ≡ workAfter (under budget (walkOf (sheetOf (now (s .entry))))) (now (work .entry)) ⌝ }
     ensures wrote { λ r. ⌜ now (out .exit) ≡ outAfter (under budget (walkOf (sheetOf (now (s .entry))))) (now (out .entry)) ⌝ }
 {
-    let mut lay = [0u64; 1306];
-    groundwork::lay(s, &mut lay);
-    let l = search::letters::letters_of(s);
-    let slot = [0u8; 256];
-    let lo = trailer::field(s, 0);
-    let hi = trailer::field(s, 1);
-    let r = search::seek(s, l, &slot, lo, hi, budget, &lay, work);
+    let r = searched(s, budget, work);
     table::clear(work);
     put_word(r.prefix, out);
     tell(r)
