@@ -13,6 +13,7 @@ use Rattle.paper.specs.Answers.{gateSays, gateLeaves}
 use Rattle.paper.proofs.Tests.{true-or-false}
 use Rattle.paper.proofs.WellFormed.{formed, steps-shorter}
 use Rattle.gate.specs.Number.{numberOf}
+use Rattle.gate.specs.Promise.{Allowed}
 use Rattle.gate.specs.declared.answer.Gate.{Gate}
 use Rattle.gate.specs.declared.answer.Gate.the-variants.{Yes, No, Malformed, Length, Workspace}
 
@@ -29,11 +30,6 @@ back No = refl
 back Malformed = refl
 back Length = refl
 back Workspace = refl
-
--- an answer and the workspace after the call, as the gate promises them
-pub record Allowed (list text word work : List ℕ) (g : Gate) (after : List ℕ) : Type 0 where
-  pub says : numberOf g ≡ gateSays list text word (length work)
-  pub leaves : after ≡ gateLeaves (numberOf g) work
 
 module _ (list text word work : List ℕ) where
   pub alone : (g h : Gate) (v w : List ℕ) → Allowed list text word work g v → Allowed list text word work h w → (g ≡ h) × (v ≡ w)

@@ -1,3 +1,4 @@
 pub mod Read
 pub mod Marks
 pub mod Number
+pub mod Promise

@@ -19,11 +19,10 @@ use Rattle.paper.proofs.Encoding.{length-list}
 use Rattle.sheet.specs.declared.Trailer.{Trailer}
 use Rattle.sheet.specs.Readers.{trailerOf}
 use Rattle.sheet.proofs.Good.{good}
-use Rattle.maker.specs.declared.Made.{Made}
 use Rattle.maker.specs.declared.Made.the-variants.{Written, Refused}
 use Rattle.maker.specs.Parts.{Put, offsetBytes, mark, endingBytes, trailerBytes}
 use Rattle.maker.specs.Prepared.{Offsets, JobOf}
-use Rattle.maker.specs.Posts.{reportOf}
+use Rattle.maker.specs.Posts.{Answered}
 use Rattle.maker.proofs.Stores.{put-more, put-same, put-written}
 
 -- ---- the trailer, and the whole list
@@ -75,10 +74,6 @@ module _ (s : List ℕ) (row n space : ℕ) where
       not-refused c h = rw (eq-eqb (refusal s) 0 a, lt-ltb row (countOf s 2) b, le-leb n 60 c, le-leb (length (cutList (grammarOf s) row n)) space h)
 
 -- ---- what is said, and what is left
-
--- the two parts of the promise
-abbrev pub Answered : (s : List ℕ) (row n : ℕ) (old now : List ℕ) → Made → Type 0
-Answered s row n old now r = (reportOf r ≡ makerSays s row n (length old)) × (now ≡ spaceAfter s row n old)
 
 module _ (s : List ℕ) (row n : ℕ) (old : List ℕ) where
   -- a refusal reports its number and changes nothing

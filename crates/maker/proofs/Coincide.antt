@@ -11,8 +11,7 @@ use Rattle.paper.specs.Answers.{MakerReport, makerRefusal, makerSays}
 use Rattle.paper.proofs.Encoding.{length-list}
 use Rattle.maker.specs.declared.Made.{Made}
 use Rattle.maker.specs.declared.Made.the-variants.{Written, Refused}
-use Rattle.maker.specs.Posts.{reportOf}
-use Rattle.maker.proofs.Answers.{Answered}
+use Rattle.maker.specs.Posts.{reportOf, Answered}
 
 -- a list is never empty, so no refusal reports what a list written reports
 not-both : (s : List ℕ) (row n space k c : ℕ) → reportOf (Written k) ≡ makerSays s row n space → reportOf (Refused c) ≡ makerSays s row n space → ⊥

@@ -1,0 +1,87 @@
+-- The demands on maker and gate, as theorems about what `make` and `gate` promise.
+-- Assumes nothing.
+use Prim.Native.Nat.{ℕ, _≤_, _<_}
+use mathlib.Core.Path.{_≡_, sym, ap, _∙_}
+use mathlib.Core.Bool.{true}
+use mathlib.Core.List.{List}
+use native.Mathlib.Omega.{arith}
+use lib.ListN.{length, take}
+use borrow.Author.Tests.{ne-eqb, lt-leb}
+use Rattle.paper.specs.Rows.{Derives}
+use Rattle.paper.specs.Sheet.{textOf, grammarOf}
+use Rattle.paper.specs.Cuts.{cutList}
+use Rattle.paper.specs.Gate.{wellFormed}
+use Rattle.paper.specs.Answers.{MakerReport, words, makerRefusal, makerSays, spaceAfter, gateSays, gateLeaves}
+use Rattle.paper.proofs.WellFormed.{formed, steps-shorter}
+use Rattle.maker.specs.declared.Made.{Made}
+use Rattle.maker.specs.Posts.{reportOf, Answered}
+use Rattle.maker.proofs.Answers.{not-refused}
+use Rattle.gate.specs.declared.answer.Gate.{Gate}
+use Rattle.gate.specs.Number.{numberOf}
+use Rattle.gate.specs.Promise.{Allowed}
+use Rattle.demands.specs.Demanded.{Makeable, ListWritten, Judged, StepsShorter}
+use Rattle.demands.proofs.Handed.{list-taken, gate-reads, reads-right, yes-or-no-leaves, made-formed, made-length, made-reading}
+
+-- ---- demand 1: a fault is named by its number, the length reported is 0, and nothing lent is changed
+
+-- the maker: 10 to 17, then 20 to 22
+pub demand-1-maker : (sheet : List ℕ) (row n : ℕ) (space space′ : List ℕ) (r : Made) → Answered sheet row n space space′ r
+    → 0 < makerRefusal sheet row n (length space)
+    → (reportOf r .number ≡ makerRefusal sheet row n (length space)) × (reportOf r .length ≡ 0) × (space′ ≡ space)
+unfolding makerSays spaceAfter
+demand-1-maker sheet row n space space′ r p h =
+    let e = ne-eqb (makerRefusal sheet row n (length space)) 0 (λ z. omega arith) in
+    (ap (λ (m : MakerReport). m .number) (p .0), ap (λ (m : MakerReport). m .length) (p .0) ∙ rw e, p .1 ∙ rw e)
+
+-- the gate, which reports its number alone: 30, 31, then 18
+pub demand-1-gate : (list text word work : List ℕ) (g : Gate) (work′ : List ℕ) → Allowed list text word work g work′
+    → 1 < gateSays list text word (length work)
+    → (numberOf g ≡ gateSays list text word (length work)) × (work′ ≡ work)
+unfolding gateLeaves
+demand-1-gate list text word work g work′ p h = (p .says, p .leaves ∙ rw (lt-leb (numberOf g) 1 (omega (arith, p .says))))
+
+-- ---- demand 3: what is made, and what is read
+
+-- lent space for it, the maker of a row of an accepted sheet writes the list
+pub list-written : (sheet : List ℕ) (row n : ℕ) (space space′ : List ℕ) (r : Made) → Answered sheet row n space space′ r
+    → Makeable sheet row n space → ListWritten sheet row n space r space′
+unfolding makerSays spaceAfter
+list-written sheet row n space space′ r p m =
+    let e = not-refused sheet row n (length space) (m .accepted) (m .in-sheet) (m .short) (m .room) in
+    record {
+      number = ap (λ (q : MakerReport). q .number) (p .0) ∙ e;
+      size = ap (λ (q : MakerReport). q .length) (p .0) ∙ rw e;
+      bytes = p .1 ∙ rw e;
+    }
+
+-- lent the maker's list, the sheet's text, a word of n bytes and 7,564 words, the gate says yes exactly when the row derives the word
+list-judged : (sheet : List ℕ) (row n : ℕ) (space word work : List ℕ) (g : Gate) (work′ : List ℕ) → Makeable sheet row n space
+    → length word ≡ n → words ≤ length work → Allowed (cutList (grammarOf sheet) row n) (textOf sheet) word work g work′ → Judged sheet row word work g work′
+list-judged sheet row n space word work g work′ m f h p =
+    let w = made-formed sheet row n (m .accepted) (m .in-sheet) (m .short) in
+    let e = made-length sheet row n (m .accepted) (m .in-sheet) (m .short) in
+    let s = p .says ∙ gate-reads _ _ word work w (f ∙ sym e) h in
+    let t = reads-right _ (Derives (grammarOf sheet) row word) (made-reading sheet row n (m .accepted) (m .in-sheet) (m .short) word f) (numberOf g) s in
+    record {
+      says-yes = t .0;
+      says-no = t .1;
+      one-of-two = t .2;
+      cleared = p .leaves ∙ yes-or-no-leaves (numberOf g) work (t .2);
+    }
+
+-- DEMAND 3. For every accepted sheet, every row of it, every n up to 60 and every word of n bytes: whatever the maker's promise allows, lent space
+-- for the list, and whatever the gate's promise allows, lent as many bytes of that space as the maker reported, the sheet's text, the word and
+-- 7,564 words: the list is written, and the gate says yes exactly when the row derives the word, and else no.
+pub demand-3 : (sheet : List ℕ) (row n : ℕ) (space space′ : List ℕ) (r : Made) (word work work′ : List ℕ) (g : Gate)
+    → Answered sheet row n space space′ r
+    → Allowed (take (reportOf r .length) space′) (textOf sheet) word work g work′
+    → Makeable sheet row n space → length word ≡ n → words ≤ length work
+    → ListWritten sheet row n space r space′ × Judged sheet row word work g work′
+demand-3 sheet row n space space′ r word work work′ g p q m f h =
+    let l = list-written sheet row n space space′ r p m in
+    let e : take (reportOf r .length) space′ ≡ cutList (grammarOf sheet) row n = rw (l .size, l .bytes) (list-taken (cutList (grammarOf sheet) row n) space) in
+    (l, list-judged sheet row n space word work g work′ m f h (rw e at q))
+
+-- every option of any well-formed list leads only to shorter lengths
+pub options-shorter : (list : List ℕ) (text : ℕ) → wellFormed list text ≡ true → StepsShorter list
+options-shorter list text w = steps-shorter list text (formed list text w)
