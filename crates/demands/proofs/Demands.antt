@@ -1,4 +1,4 @@
--- The demands on maker and gate, as theorems about what `make` and `gate` promise.
+-- The three demands, as theorems about what `solve`, `make` and `gate` promise.
 -- Assumes nothing.
 use Prim.Native.Nat.{ℕ, _≤_, _<_}
 use mathlib.Core.Path.{_≡_, sym, ap, _∙_}
@@ -7,22 +7,39 @@ use mathlib.Core.List.{List}
 use native.Mathlib.Omega.{arith}
 use lib.ListN.{length, take}
 use borrow.Author.Tests.{ne-eqb, lt-leb}
+use Rattle.paper.specs.Trailer.{longest}
+use Rattle.paper.specs.Refusals.{Accepted}
 use Rattle.paper.specs.Rows.{Derives}
-use Rattle.paper.specs.Sheet.{textOf, grammarOf}
+use Rattle.paper.specs.Sheet.{sheetOf, textOf, grammarOf}
 use Rattle.paper.specs.Cuts.{cutList}
 use Rattle.paper.specs.Gate.{wellFormed}
-use Rattle.paper.specs.Answers.{MakerReport, words, makerRefusal, makerSays, spaceAfter, gateSays, gateLeaves}
+use Rattle.paper.specs.Answers.{Said, MakerReport, words, zeroed, workAfter, outAfter, solverRefusal, makerRefusal, makerSays, spaceAfter, gateSays, gateLeaves}
+use Rattle.paper.specs.Answers as answers
 use Rattle.paper.proofs.WellFormed.{formed, steps-shorter}
+use Rattle.solver.specs.declared.Solved.{Solved}
+use Rattle.solver.specs.Reported.{refused, reported}
+use Rattle.solver.specs.Promise.{Promise}
+use Rattle.solver.proofs.Solving.{says-refused, says-answer, work-zeroed}
 use Rattle.maker.specs.declared.Made.{Made}
 use Rattle.maker.specs.Posts.{reportOf, Answered}
 use Rattle.maker.proofs.Answers.{not-refused}
 use Rattle.gate.specs.declared.answer.Gate.{Gate}
 use Rattle.gate.specs.Number.{numberOf}
 use Rattle.gate.specs.Promise.{Allowed}
+use Rattle.demands.specs.Solved as solved
 use Rattle.demands.specs.Demanded.{Makeable, ListWritten, Judged, StepsShorter}
+use Rattle.demands.proofs.Answering.{answered}
 use Rattle.demands.proofs.Handed.{list-taken, gate-reads, reads-right, yes-or-no-leaves, made-formed, made-length, made-reading}
 
 -- ---- demand 1: a fault is named by its number, the length reported is 0, and nothing lent is changed
+
+-- the solver: 10 to 19; trials 0 too
+pub demand-1-solver : (sheet : List ℕ) (budget : ℕ) (work out : List ℕ) (r : Solved) (work′ out′ : List ℕ) → Promise sheet budget work out r work′ out′
+    → 0 < solverRefusal sheet (length work) (length out)
+    → (reported r ≡ refused (solverRefusal sheet (length work) (length out))) × (work′ ≡ work) × (out′ ≡ out)
+demand-1-solver sheet budget work out r work′ out′ p h =
+    let e = says-refused sheet budget work out h in
+    (p .said ∙ ap answers.reportOf e, p .cleared ∙ ap (λ (a : Said). workAfter a work) e, p .wrote ∙ ap (λ (a : Said). outAfter a out) e)
 
 -- the maker: 10 to 17, then 20 to 22
 pub demand-1-maker : (sheet : List ℕ) (row n : ℕ) (space space′ : List ℕ) (r : Made) → Answered sheet row n space space′ r
@@ -39,6 +56,18 @@ pub demand-1-gate : (list text word work : List ℕ) (g : Gate) (work′ : List 
     → (numberOf g ≡ gateSays list text word (length work)) × (work′ ≡ work)
 unfolding gateLeaves
 demand-1-gate list text word work g work′ p h = (p .says, p .leaves ∙ rw (lt-leb (numberOf g) 1 (omega (arith, p .says))))
+
+-- ---- demand 2: what is found
+
+-- DEMAND 2. For every accepted sheet and every budget, lent 7,564 words and an output of the longest length, whatever the solver's promise allows
+-- is answered as `Answered` says; the first 7,564 words of the workspace are then zero, and later words stay.
+pub demand-2 : (sheet : List ℕ) (budget : ℕ) (work out : List ℕ) (r : Solved) (work′ out′ : List ℕ) → Promise sheet budget work out r work′ out′
+    → Accepted sheet → words ≤ length work → longest sheet ≤ length out
+    → solved.Answered (sheetOf sheet) budget out out′ (reported r) × (work′ ≡ zeroed words work)
+unfolding words
+demand-2 sheet budget work out r work′ out′ p a b c =
+    let e = says-answer sheet budget work out a b c in
+    (rw (p .said, p .wrote, e) (answered (sheetOf sheet) budget out), p .cleared ∙ rw e (work-zeroed (sheetOf sheet) budget work))
 
 -- ---- demand 3: what is made, and what is read
 

@@ -1,3 +1,3 @@
 pub mod Putting
-pub mod Demands
+pub mod Coincide
 pub mod Solving

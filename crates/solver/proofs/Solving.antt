@@ -8,18 +8,17 @@ use borrow.Author.Tests.{le-leb, lt-leb, eq-eqb, ne-eqb}
 use lib.ListN.{length, drop}
 use Rattle.paper.specs.Trailer.{longest, shortest}
 use Rattle.paper.specs.Refusals.{refusal}
-use Rattle.paper.specs.Sheet.{sheetOf, letter}
+use Rattle.paper.specs.Sheet.{Sheet, sheetOf, letter}
 use Rattle.paper.specs.Opens.{opens}
 use Rattle.paper.specs.Walk.{walk}
-use Rattle.paper.specs.Answers.{Said, Refused, Report, reportOf, outAfter, workAfter, words, zeroed, under, walkOf, solverRefusal, solverSays}
-use Rattle.paper.proofs.Meaning.{answer-means}
+use Rattle.paper.specs.Answers.{Said, Found, None, Spent, Refused, Report, reportOf, outAfter, workAfter, words, zeroed, under, walkOf, solverRefusal, solverSays}
+use Rattle.paper.proofs.Meaning.{Means, answer-means}
 use Rattle.chart.specs.Cells.{Within}
 use Rattle.walk.specs.Letters.{hasLetter}
 use Rattle.search.specs.Tells.{Tells}
 use Rattle.search.specs.declared.Sought.{Sought}
 use Rattle.solver.specs.Reported.{refused}
 use Rattle.solver.specs.Promise.{says}
-use Rattle.solver.proofs.Demands.{work-zeroed}
 
 -- ---- the walk of the search is the sheet's
 
@@ -47,13 +46,23 @@ tells-same s of budget lo hi r h e f t =
 
 -- ---- the workspace is cleared
 
+-- whatever is answered
+means-zeroed : (S : Sheet) (budget : ℕ) (work : List ℕ) (x : Said) → Means S budget x → workAfter x work ≡ zeroed words work
+means-zeroed S budget work (Found w t) m = refl
+means-zeroed S budget work (None t) m = refl
+means-zeroed S budget work (Spent t) m = refl
+means-zeroed S budget work (Refused n) m = absurd m
+
+pub work-zeroed : (S : Sheet) (budget : ℕ) (work : List ℕ) → workAfter (under budget (walkOf S)) work ≡ zeroed words work
+work-zeroed S budget work = means-zeroed S budget work (under budget (walkOf S)) (answer-means S budget)
+
 zeroed-same : (u w : List ℕ) → drop words w ≡ drop words u → zeroed words w ≡ zeroed words u
 unfolding zeroed
 zeroed-same u w r = rw r
 
 pub cleared-same : (s : List ℕ) (budget : ℕ) (work w v : List ℕ) → Within work w → v ≡ zeroed words w → v ≡ workAfter (under budget (walkOf (sheetOf s))) work
 cleared-same s budget work w v k e =
-    e ∙ zeroed-same work w (k .rest) ∙ sym (work-zeroed (sheetOf s) budget work (under budget (walkOf (sheetOf s))) (answer-means (sheetOf s) budget))
+    e ∙ zeroed-same work w (k .rest) ∙ sym (work-zeroed (sheetOf s) budget work)
 
 -- ---- refusals
 
@@ -62,6 +71,10 @@ module _ (s : List ℕ) (budget : ℕ) (work out : List ℕ) where
   pub refusing : (n : ℕ) → says s budget work out ≡ Refused n
       → (refused n ≡ reportOf (says s budget work out)) × ((work ≡ workAfter (says s budget work out) work) × (out ≡ outAfter (says s budget work out) out))
   refusing n e = rw e (refl, (refl, refl))
+
+  pub says-refused : 0 < solverRefusal s (length work) (length out) → says s budget work out ≡ Refused (solverRefusal s (length work) (length out))
+  unfolding solverSays
+  says-refused h = rw (ne-eqb (solverRefusal s (length work) (length out)) 0 (λ e. omega arith))
 
   pub says-sheet : (n : ℕ) → refusal s ≡ n → 0 < n → says s budget work out ≡ Refused n
   unfolding solverSays solverRefusal
