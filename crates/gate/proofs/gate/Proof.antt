@@ -14,7 +14,7 @@ well : (p : tie.Else1) → wellFormed (p .before .before .before .before .before
 well p = sym (p .before .well-formed .ensures) ∙ not-false (p .before .well-formed .result) (p .if1 .left)
 
 fit : (p : tie.Else2) → length (p .before .before .before .before .before .before .before .before .args .word .now) ≡ nOf (p .before .before .before .before .before .before .before .before .args .list .now)
-fit p = p .if2 .left ∙ p .before .trailer-of .ensures .length-is
+fit p = omega (arith, p .before .trailer-of .ensures .length-is)
 
 well-formed-requires : tie.Need-well-formed-requires
 well-formed-requires c κs = search needs
@@ -31,7 +31,8 @@ trailer-of-requires c κs =
 returns-2 : tie.Need-returns-2
 unfolding gateSays gateLeaves
 returns-2 c =
-    (rw (well (c .before .before), ne-eqb _ _ (λ e. c .if2 .taken (e ∙ sym (c .before .trailer-of .ensures .length-is)))), refl)
+    let a = c .before .before .before .before .before .before .before .before .args in
+    (rw (well (c .before .before), ne-eqb (length (a .word .now)) (nOf (a .list .now)) (λ e. omega (arith, c .before .trailer-of .ensures .length-is))), refl)
 
 returns-3 : tie.Need-returns-3
 unfolding gateSays gateLeaves words

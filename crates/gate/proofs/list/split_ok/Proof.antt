@@ -1,3 +1,4 @@
+use native.Mathlib.Omega.{arith}
 use borrow.Author.Tests.{lt-ltb, le-ltb}
 use Rattle.gate.proofs.list.split_ok.Statement.{statement}
 use Rattle.gate.proofs.list.split_ok.Tie as tie
@@ -8,15 +9,18 @@ returns c =
 
 returns-2 : tie.Need-returns-2
 returns-2 c =
-    rw (lt-ltb _ _ (c .before .before .if1 .left), le-ltb _ _ (c .if2 .taken))
+    let a = c .before .before .before .before .args in
+    rw (lt-ltb 0 (a .f .k) (omega arith), le-ltb (a .f .k) (a .m) (omega arith))
 
 returns-3 : tie.Need-returns-3
 returns-3 c =
-    rw (lt-ltb _ _ (c .before .before .before .before .before .if1 .left), lt-ltb _ _ (c .before .before .before .if2 .left), lt-ltb _ _ (c .before .if3 .taken))
+    let a = c .before .before .before .before .before .before .before .args in
+    rw (lt-ltb 0 (a .f .k) (omega arith), lt-ltb (a .f .k) (a .m) (omega arith), lt-ltb _ _ (c .before .if3 .taken))
 
 returns-4 : tie.Need-returns-4
 returns-4 c =
-    rw (lt-ltb _ _ (c .before .before .before .before .if1 .left), lt-ltb _ _ (c .before .before .if2 .left), le-ltb _ _ (c .if3 .left))
+    let a = c .before .before .before .before .before .before .args in
+    rw (lt-ltb 0 (a .f .k) (omega arith), lt-ltb (a .f .k) (a .m) (omega arith), le-ltb _ _ (c .if3 .left))
 
 pub split-ok-spec : {M : Type 1} → statement M
 split-ok-spec = tie.close (tie.spec returns returns-2 returns-3 returns-4)

@@ -1,0 +1,13 @@
+-- `answered` hands the answer back and leaves no bit. The proof names no callee: whatever is called, the workspace has to end as promised.
+use borrow.Author.Needs.{needs}
+use Rattle.gate.proofs.marks.answered.Statement.{statement}
+use Rattle.gate.proofs.marks.answered.Tie as tie
+
+same-length : tie.Need-same-length
+same-length c = search needs
+
+returns : tie.Need-returns
+returns c = (search needs, search needs)
+
+pub answered-spec : {M : Type 1} → statement M
+answered-spec = tie.close (tie.spec (λ c κs. search needs) same-length returns)
