@@ -1,0 +1,22 @@
+use mathlib.Core.Path.{sym, ap, _∙_}
+use Rattle.paper.specs.Answers.{gateLeaves}
+use borrow.Author.Needs.{needs}
+use Rattle.strovimel_c.proofs.strovimel_gate.Statement.{statement}
+use Rattle.strovimel_c.proofs.strovimel_gate.Tie as tie
+
+gate-requires : tie.Need-gate-requires
+gate-requires c κs = search needs
+
+number-requires : tie.Need-number-requires
+number-requires c κs = search needs
+
+same-length : tie.Need-same-length
+same-length c = search needs
+
+returns : tie.Need-returns
+returns c =
+    let g = c .before .before .before .gate in
+    (c .number .ensures ∙ g .ensures .0, g .ensures .1 ∙ ap (λ k. gateLeaves k (c .before .before .before .before .before .before .before .before .before .args .work .now)) (sym (c .number .ensures)))
+
+pub strovimel-gate-spec : {M : Type 1} → statement M
+strovimel-gate-spec = tie.close (tie.spec gate-requires number-requires same-length returns)

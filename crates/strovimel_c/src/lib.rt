@@ -1,0 +1,116 @@
+// The calls of the solver, the maker and the gate as C makes them: a slice is a pointer and a length, an answer a number or a struct by value.
+ghost use mathlib.Core.Path.{_≡_};
+ghost use Prim.Native.Nat.{_<_};
+ghost use lib.ListN.{length};
+ghost use Rattle.paper.specs.Answers.{reportOf, outAfter, workAfter, makerSays, spaceAfter, gateSays, gateLeaves};
+ghost use Rattle.solver.specs.Reported.{refused, reported};
+ghost use Rattle.solver.specs.Promise.{says};
+ghost use Rattle.maker.specs.Posts.{reportOf as making};
+ghost use Rattle.strovimel_c.specs.Structs.{solvedReport, madeReport};
+
+// The solver's answer: its number, the word's length, the trials.
+#[repr(C)]
+pub struct Solved {
+    pub number: u32,
+    pub length: u32,
+    pub trials: u64,
+}
+
+// The maker's answer: its number, the list's length.
+#[repr(C)]
+pub struct Made {
+    pub number: u32,
+    pub length: u32,
+}
+
+fn refused_by(number: u32) -> Solved
+    ensures { λ r. ⌜ solvedReport r ≡ refused number ⌝ }
+{
+    Solved {
+        number: number,
+        length: 0,
+        trials: 0,
+    }
+}
+
+fn tell_solved(a: solver::Solved) -> Solved
+    requires { ⌜ reported a .length < 4294967296 ⌝ }
+    ensures { λ r. ⌜ solvedReport r ≡ reported a ⌝ }
+{
+    match a {
+        solver::Solved::Found(length, trials) => Solved {
+            number: 0,
+            length: length as u32,
+            trials: trials,
+        },
+        solver::Solved::None(trials) => Solved {
+            number: 1,
+            length: 0,
+            trials: trials,
+        },
+        solver::Solved::Spent(trials) => Solved {
+            number: 2,
+            length: 0,
+            trials: trials,
+        },
+        solver::Solved::Short => refused_by(10),
+        solver::Solved::Long => refused_by(11),
+        solver::Solved::Mark => refused_by(12),
+        solver::Solved::Total => refused_by(13),
+        solver::Solved::Counts => refused_by(14),
+        solver::Solved::Offsets => refused_by(15),
+        solver::Solved::Record => refused_by(16),
+        solver::Solved::Term => refused_by(17),
+        solver::Solved::Workspace => refused_by(18),
+        solver::Solved::Output => refused_by(19),
+    }
+}
+
+fn tell_made(a: maker::Made) -> Made
+    requires { ⌜ making a .length < 4294967296 ⌝ }
+    ensures { λ r. ⌜ madeReport r ≡ making a ⌝ }
+{
+    match a {
+        maker::Made::Written(length) => Made {
+            number: 0,
+            length: length as u32,
+        },
+        maker::Made::Refused(number) => Made {
+            number: number as u32,
+            length: 0,
+        },
+    }
+}
+
+// What is said of any bytes and any budget, lent any workspace and any output.
+#[no_mangle]
+pub extern "C" fn strovimel_solve(
+    sheet: &[u8],
+    budget: u64,
+    work: &mut [u64],
+    out: &mut [u8],
+) -> Solved
+    ensures said { λ r. ⌜ solvedReport r ≡ reportOf (says (now (sheet .entry)) budget (now (work .entry)) (now (out .entry))) ⌝ }
+    ensures cleared { λ r. ⌜ now (work .exit) ≡ workAfter (says (now (sheet .entry)) budget (now (work .entry)) (now (out .entry))) (now (work .entry)) ⌝ }
+    ensures wrote { λ r. ⌜ now (out .exit) ≡ outAfter (says (now (sheet .entry)) budget (now (work .entry)) (now (out .entry))) (now (out .entry)) ⌝ }
+{
+    tell_solved(solver::solve(sheet, budget, work, out))
+}
+
+// The cut list of a sheet's row for a length, at the start of the space lent.
+#[no_mangle]
+pub extern "C" fn strovimel_make(sheet: &[u8], row: u64, n: u64, list: &mut [u8]) -> Made
+    ensures said { λ r. ⌜ madeReport r ≡ makerSays (now (sheet .entry)) row n (length (now (list .entry))) ⌝ }
+    ensures wrote { λ r. ⌜ now (list .exit) ≡ spaceAfter (now (sheet .entry)) row n (now (list .entry)) ⌝ }
+{
+    tell_made(maker::make(sheet, row, n, list))
+}
+
+// Whether the list accepts the word, with the text: on any list, text, word and workspace.
+#[no_mangle]
+pub extern "C" fn strovimel_gate(list: &[u8], text: &[u8], word: &[u8], work: &mut [u64]) -> u32
+    ensures said { λ r. ⌜ r ≡ gateSays (now (list .entry)) (now (text .entry)) (now (word .entry)) (length (now (work .entry))) ⌝ }
+    ensures left { λ r. ⌜ now (work .exit) ≡ gateLeaves r (now (work .entry)) ⌝ }
+{
+    gate::number(gate::gate(list, text, word, work))
+}
