@@ -3,15 +3,18 @@
 use std::fs;
 use std::path::PathBuf;
 
+use compare::alike;
 use compare::keys::{keys, BUDGET};
 use compare::program::line;
+use compare::sheet::{read_u16, Sheet, TABLES};
 use compare::solve::{solve, WORK};
 
-const ANSWERS: [(&str, &str); 11] = [
+const ANSWERS: [(&str, &str); 12] = [
     ("digits2-none", "none 524"),
     ("digits3-none", "none 4225"),
     ("digits4-none", "none 41226"),
     ("list8-found", "found 5 403 4252323539"),
+    ("list8-found-back", "none 542"),
     ("list8-none", "none 579"),
     ("list32-found", "found 5 251 4252313437"),
     ("list32-none", "none 1578"),
@@ -32,6 +35,30 @@ fn everyday_sheets() {
         let mut out = [0; 60];
         let solved = solve(&sheet(name), BUDGET, &mut [0; WORK], &mut out);
         assert_eq!(line(&solved, &out), answer, "{name}");
+    }
+}
+
+/// More trials than any plain walk can reach.
+#[test]
+fn ten_digits() {
+    for name in ["digits10-none", "digits10-none-back"] {
+        let sheet = Sheet::check(&sheet(name)).expect("an accepted sheet");
+        let counted = alike::count(&sheet, 2_000).expect("a count in reach");
+        assert_eq!((counted.trials, counted.found), (41_111_111_232, None), "{name}");
+    }
+}
+
+/// The question asked the other way: the same sheet with every sign turned.
+#[test]
+fn asked_back() {
+    for name in ["digits10-none", "list8-found"] {
+        let mut turned = sheet(name);
+        let end = turned.len();
+        let (offset, count) = (read_u16(&turned, end - 12), read_u16(&turned, end - 10));
+        for record in turned[offset..].chunks_mut(TABLES[4].record).take(count) {
+            record[1] ^= 1;
+        }
+        assert_eq!(sheet(&format!("{name}-back")), turned, "{name}");
     }
 }
 

@@ -1,1 +1,2 @@
 pub mod Structs
+pub mod Promise
