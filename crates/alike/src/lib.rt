@@ -53,7 +53,7 @@ fn bar_text(mut bars: Bars, text: &[u8]) -> Bars
 {
     let mut j: usize = 0;
     while j < text.len() {
-        let b = trailer::wide(text[j]);
+        let b = numbers::wide(text[j]);
         bars.of[b] = 1;
         j += 1;
     }
@@ -75,7 +75,7 @@ fn owner_like(ws: &[u64], owners: [u8; 8], used: usize, b: usize) -> usize
 {
     let mut k: usize = 1;
     while k < used {
-        if ranges::same(ws, b, trailer::wide(owners[k])) {
+        if ranges::same(ws, b, numbers::wide(owners[k])) {
             return k;
         }
         k += 1;

@@ -15,7 +15,8 @@ use Rattle.paper.specs.Tests.{anyBelow}
 use Rattle.paper.specs.Decide.{Pattern, Test, reaches, someIn, ownRow, level, accepts}
 use Rattle.paper.specs.Sheet.{Sheet}
 use Rattle.paper.proofs.Tests.{any-intro, and-intro, and-right, any-none, or-false, or-cases, or-right, or-assoc, same-test}
-use Rattle.paper.proofs.Derivation.{accepts-level, reaches-from}
+use Rattle.paper.proofs.Reaching.{reaches-from}
+use Rattle.paper.proofs.Derivation.{accepts-level}
 use Rattle.table.specs.Spans.{spanAt}
 use Rattle.table.specs.Bits.{bitAt, wiped}
 use Rattle.table.proofs.Bits.{wiped-bit}

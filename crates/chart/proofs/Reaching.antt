@@ -9,7 +9,8 @@ use lib.ListN.{length, getD}
 use Rattle.paper.specs.Rows.{Grammar, Reach, Keeps}
 use Rattle.paper.specs.Decide.{Pattern, reaches, accepts}
 use Rattle.paper.specs.Sheet.{Sheet}
-use Rattle.paper.proofs.Derivation.{derives-below, reaches-sound, reaches-from, accepts-right}
+use Rattle.paper.proofs.Reaching.{derives-below, reaches-sound, reaches-from}
+use Rattle.paper.proofs.Derivation.{accepts-right}
 use Rattle.table.specs.Bits.{bitAt}
 use Rattle.table.proofs.Bits.{bit-past}
 use Rattle.table.proofs.Spans.{lt-or-le}

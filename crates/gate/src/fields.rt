@@ -4,49 +4,17 @@ ghost use mathlib.Core.Bool.{true, _&&_};
 ghost use Prim.Native.Nat.{_+_, _*_, _-_, _≤_, _<_};
 ghost use lib.ListN.{length};
 ghost use lib.Dec.{leb, ltb};
-ghost use Rattle.paper.specs.Bytes.{u16At, u32At, markAt};
+ghost use Rattle.paper.specs.Bytes.{markAt};
 ghost use Rattle.paper.specs.Trailer.{limit};
 ghost use Rattle.paper.specs.Gate.{nOf, rowsOf, rootOf, trailerOk, optOf};
 ghost use Rattle.gate.specs.Read.{Trailed, Fielded, optionOf};
-
-pub fn wide(x: u8) -> usize
-    ensures { λ r. ⌜ (r ≡ x) × (r < 256) ⌝ }
-{
-    x as usize
-}
-
-// The number of two bytes at o.
-pub fn u16_at(s: &[u8], o: usize) -> usize
-    requires { ⌜ o + 2 ≤ length (now s) ⌝ }
-    ensures { λ r. ⌜ (r ≡ u16At (now (s .entry)) o) × (r < 65536) ⌝ }
-{
-    wide(s[o]) + 256 * wide(s[o + 1])
-}
-
-// The number of four bytes at o.
-pub fn u32_at(s: &[u8], o: usize) -> usize
-    requires { ⌜ o + 4 ≤ length (now s) ⌝ }
-    ensures { λ r. ⌜ (r ≡ u32At (now (s .entry)) o) × (r < 4294967296) ⌝ }
-{
-    u16_at(s, o) + 65536 * u16_at(s, o + 2)
-}
 
 // The mark `CUT1` at the list's end.
 fn mark_ok(list: &[u8]) -> bool
     requires { ⌜ 20 ≤ length (now list) ⌝ }
     ensures { λ r. ⌜ r ≡ markAt (now (list .entry)) (length (now (list .entry)) - 4) 67 85 84 49 ⌝ }
 {
-    let o = list.len() - 4;
-    if list[o] != b'C' {
-        return false;
-    }
-    if list[o + 1] != b'U' {
-        return false;
-    }
-    if list[o + 2] != b'T' {
-        return false;
-    }
-    list[o + 3] == b'1'
+    numbers::mark_at(list, list.len() - 4, b'C', b'U', b'T', b'1')
 }
 
 // The trailer's numbers are within their limits, and the list has room for it.
@@ -55,21 +23,21 @@ fn counts_ok(list: &[u8]) -> bool
     ensures { λ r. ⌜ r ≡ (leb (nOf (now (list .entry))) limit && (leb (4 * nOf (now (list .entry)) + 20) (length (now (list .entry))) && (leb 1 (rowsOf (now (list .entry))) && (leb (rowsOf (now (list .entry))) 256 && ltb (rootOf (now (list .entry))) (rowsOf (now (list .entry))))))) ⌝ }
 {
     let len = list.len();
-    let n = wide(list[len - 12]);
+    let n = numbers::wide(list[len - 12]);
     if n > 60 {
         return false;
     }
     if 4 * n + 20 > len {
         return false;
     }
-    let rows = u16_at(list, len - 14);
+    let rows = numbers::u16_at(list, len - 14);
     if rows < 1 {
         return false;
     }
     if rows > 256 {
         return false;
     }
-    u16_at(list, len - 16) < rows
+    numbers::u16_at(list, len - 16) < rows
 }
 
 pub fn trailer_ok(list: &[u8]) -> bool
@@ -80,7 +48,7 @@ pub fn trailer_ok(list: &[u8]) -> bool
     if !mark_ok(list) {
         return false;
     }
-    if u32_at(list, len - 8) != len {
+    if numbers::u32_at(list, len - 8) != len {
         return false;
     }
     if list[len - 11] != 0 {
@@ -108,9 +76,9 @@ pub fn trailer_of(list: &[u8]) -> Trailer
     ensures { λ t. ⌜ Trailed (now (list .entry)) t ⌝ }
 {
     let len = list.len();
-    let n = wide(list[len - 12]);
-    let rows = u16_at(list, len - 14);
-    let root = u16_at(list, len - 16);
+    let n = numbers::wide(list[len - 12]);
+    let rows = numbers::u16_at(list, len - 14);
+    let root = numbers::u16_at(list, len - 16);
     Trailer {
         n,
         rows,
@@ -132,9 +100,9 @@ pub fn fields_at(list: &[u8], o: usize) -> Fields
     ensures { λ f. ⌜ Fielded (now (list .entry)) o f ⌝ }
 {
     let kind = list[o];
-    let k = wide(list[o + 1]);
-    let a = u16_at(list, o + 2);
-    let b = u16_at(list, o + 4);
+    let k = numbers::wide(list[o + 1]);
+    let a = numbers::u16_at(list, o + 2);
+    let b = numbers::u16_at(list, o + 4);
     Fields { kind, k, a, b }
 }
 

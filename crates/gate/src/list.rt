@@ -4,9 +4,6 @@ use crate::fields::Trailer;
 use crate::fields::fields_at;
 use crate::fields::trailer_of;
 use crate::fields::trailer_ok;
-use crate::fields::u16_at;
-use crate::fields::u32_at;
-use crate::fields::wide;
 ghost use mathlib.Core.Path.{_≡_};
 ghost use mathlib.Core.Bool.{_&&_};
 ghost use Prim.Native.Nat.{suc, _+_, _*_, _≤_, _<_};
@@ -88,7 +85,7 @@ fn option_ok(list: &[u8], t: Trailer, text: usize, m: usize, o: usize) -> bool
     requires { ⌜ Trailed (now list) t × (o + 8 ≤ length (now list)) ⌝ }
     ensures { λ r. ⌜ r ≡ optionOk (now (list .entry)) text m o ⌝ }
 {
-    if u16_at(list, o + 6) != 0 {
+    if numbers::u16_at(list, o + 6) != 0 {
         return false;
     }
     option_fields(text, t.rows, m, fields_at(list, o))
@@ -124,15 +121,15 @@ fn entry(list: &[u8], t: Trailer, text: usize, m: usize, r: usize, o: usize) -> 
     if o + 8 > t.base {
         return Past::Broken;
     }
-    let count = u32_at(list, o + 4);
+    let count = numbers::u32_at(list, o + 4);
     let end = o + 8 + 8 * count;
     if end > t.base {
         return Past::Broken;
     }
-    if u16_at(list, o) != r {
+    if numbers::u16_at(list, o) != r {
         return Past::Broken;
     }
-    if wide(list[o + 2]) != m {
+    if numbers::wide(list[o + 2]) != m {
         return Past::Broken;
     }
     if list[o + 3] != 0 {
@@ -177,7 +174,7 @@ fn groups(list: &[u8], t: Trailer, text: usize) -> bool
     let mut at: usize = 0;
     let mut m: usize = 0;
     while m <= n {
-        if u32_at(list, base + 4 * m) != at {
+        if numbers::u32_at(list, base + 4 * m) != at {
             return false;
         }
         match group(list, t, text, m, at) {

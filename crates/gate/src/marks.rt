@@ -33,7 +33,7 @@ fn holds(text: &[u8], word: &[u8], work: &[u64], x: Choice, m: usize, i: usize) 
 {
     match x {
         Choice::Byte(low, high) => {
-            let b = fields::wide(word[i]);
+            let b = numbers::wide(word[i]);
             low <= b && b <= high
         }
         Choice::Stretch(a, b) => {
@@ -89,7 +89,7 @@ fn mark_head(
     requires { ⌜ Readable (now list) (now text) (now word) (now work) × (m ≤ nOf (now list)) × (r < rowsOf (now list)) × (o ≡ headAt (now list) m r) ⌝ }
     ensures { λ e. ⌜ (e ≡ headEnd (now (list .entry)) o) × (now (work .exit) ≡ markHead (now (list .entry)) (now (text .entry)) (now (word .entry)) m r (now (work .entry))) ⌝ }
 {
-    let count = fields::u32_at(list, o + 4);
+    let count = numbers::u32_at(list, o + 4);
     let mut j: usize = 0;
     while j < count {
         let x = fields::choice_at(list, o + 8 + 8 * j);

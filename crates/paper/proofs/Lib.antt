@@ -1,6 +1,7 @@
 pub mod Keys
 pub mod Tests
 pub mod Closure
+pub mod Reaching
 pub mod Derivation
 pub mod Gathered
 pub mod Encoding

@@ -33,8 +33,8 @@ pub fn row_ok(s: &[u8], o: usize, rows: usize, text: usize) -> bool
     if s[o + 1] != 0 {
         return false;
     }
-    let a = trailer::u16_at(s, o + 2);
-    let b = trailer::u16_at(s, o + 4);
+    let a = numbers::u16_at(s, o + 2);
+    let b = numbers::u16_at(s, o + 4);
     row_fields(rows, text, s[o], a, b)
 }
 
@@ -57,8 +57,8 @@ pub fn part_ok(s: &[u8], o: usize, text: usize) -> bool
     if s[o + 1] != 0 {
         return false;
     }
-    let a = trailer::u16_at(s, o + 2);
-    let b = trailer::u16_at(s, o + 4);
+    let a = numbers::u16_at(s, o + 2);
+    let b = numbers::u16_at(s, o + 4);
     part_fields(text, s[o], a, b)
 }
 
@@ -81,16 +81,16 @@ pub fn assert_ok(s: &[u8], o: usize, text: usize, rows: usize, parts: usize) -> 
     if s[o + 1] > 1 {
         return false;
     }
-    let first = trailer::u16_at(s, o + 2);
-    let count = trailer::u16_at(s, o + 4);
+    let first = numbers::u16_at(s, o + 2);
+    let count = numbers::u16_at(s, o + 4);
     if first + count > parts {
         return false;
     }
-    let zero = trailer::u16_at(s, o + 10);
+    let zero = numbers::u16_at(s, o + 10);
     if zero != 0 {
         return false;
     }
-    let a = trailer::u16_at(s, o + 6);
-    let b = trailer::u16_at(s, o + 8);
+    let a = numbers::u16_at(s, o + 6);
+    let b = numbers::u16_at(s, o + 8);
     assert_fields(text, rows, parts, s[o], a, b)
 }

@@ -15,7 +15,7 @@ fn part_len(s: &[u8], o: usize) -> usize
     if s[o] == 2 {
         trailer::field(s, 1)
     } else {
-        trailer::u16_at(s, o + 4)
+        numbers::u16_at(s, o + 4)
     }
 }
 
@@ -47,16 +47,16 @@ fn assert_fits(s: &[u8], o: usize) -> bool
     requires { ⌜ (32 ≤ length (now s)) × (o + 12 ≤ length (now s)) × Placed (now s) × (recordOk (now s) 4 o ≡ true) ⌝ }
     ensures { λ r. ⌜ r ≡ assertFits (now (s .entry)) o ⌝ }
 {
-    let first = trailer::u16_at(s, o + 2);
-    let count = trailer::u16_at(s, o + 4);
+    let first = numbers::u16_at(s, o + 2);
+    let count = numbers::u16_at(s, o + 4);
     if !term_fits(s, first, count) {
         return false;
     }
     if s[o] != 3 {
         return true;
     }
-    let a = trailer::u16_at(s, o + 6);
-    let b = trailer::u16_at(s, o + 8);
+    let a = numbers::u16_at(s, o + 6);
+    let b = numbers::u16_at(s, o + 8);
     term_fits(s, a, b)
 }
 

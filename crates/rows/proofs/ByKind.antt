@@ -14,7 +14,7 @@ use Rattle.paper.specs.Trailer.{countOf}
 use Rattle.paper.specs.Sheet.{grammarOf}
 use Rattle.paper.specs.Rows.{Empty, Range, Text, Alt, Seq, Star, Grammar, rowOf, row, Keeps}
 use Rattle.paper.specs.Decide.{nullRow, nullable}
-use Rattle.paper.proofs.Derivation.{nullable-right}
+use Rattle.paper.proofs.Reaching.{nullable-right}
 use Rattle.sheet.specs.declared.Fields.{Fields}
 use Rattle.sheet.specs.Readers.{RowRead}
 use Rattle.sheet.proofs.Good.{good}

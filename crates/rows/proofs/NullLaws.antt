@@ -11,7 +11,7 @@ use Rattle.paper.specs.Rows.{Grammar, row, rowOf}
 use Rattle.paper.specs.Decide.{has, closure, nullRow, nullRule, nullable}
 use Rattle.paper.proofs.Tests.{same-test}
 use Rattle.paper.proofs.Closure.{closure-closed, closure-least}
-use Rattle.paper.proofs.Derivation.{null-mono}
+use Rattle.paper.proofs.Reaching.{null-mono}
 use Rattle.table.specs.Bits.{bitAt, setBit, wiped}
 use Rattle.table.specs.Room.{Grows}
 use Rattle.table.proofs.Bits.{set-bit-same, set-bit-other, wiped-bit}

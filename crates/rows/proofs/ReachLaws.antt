@@ -13,7 +13,7 @@ use lib.ListN.{length}
 use Rattle.paper.specs.Rows.{Grammar, row, rowOf, Keeps, Reach}
 use Rattle.paper.specs.Decide.{nullable, reaches}
 use Rattle.paper.proofs.Tests.{same-test, or-cases, or-left, or-right, eqb-same, same-eqb}
-use Rattle.paper.proofs.Derivation.{reaches-sound, reaches-from, keeps-below}
+use Rattle.paper.proofs.Reaching.{reaches-sound, reaches-from, keeps-below}
 use Rattle.table.specs.Bits.{bitAt, setBit, wiped, joined}
 use Rattle.table.specs.Room.{Grows}
 use Rattle.table.proofs.Bits.{set-bit-same, set-bit-other, set-bit-apart, length-wiped, wiped-bit, wiped-apart, joined-bit, joined-apart}

@@ -159,8 +159,8 @@ fn fields_at(s: &[u8], o: usize) -> Fields
     ensures { λ r. ⌜ FieldsAt (now (s .entry)) o r ⌝ }
 {
     let kind = s[o];
-    let a = trailer::u16_at(s, o + 2);
-    let b = trailer::u16_at(s, o + 4);
+    let a = numbers::u16_at(s, o + 2);
+    let b = numbers::u16_at(s, o + 4);
     Fields { kind, a, b }
 }
 
@@ -187,10 +187,10 @@ fn assertion_fields(s: &[u8], o: usize) -> Assertion
 {
     let kind = s[o];
     let denied = s[o + 1] == 1;
-    let first = trailer::u16_at(s, o + 2);
-    let count = trailer::u16_at(s, o + 4);
-    let a = trailer::u16_at(s, o + 6);
-    let b = trailer::u16_at(s, o + 8);
+    let first = numbers::u16_at(s, o + 2);
+    let count = numbers::u16_at(s, o + 4);
+    let a = numbers::u16_at(s, o + 6);
+    let b = numbers::u16_at(s, o + 8);
     Assertion {
         kind,
         denied,

@@ -25,8 +25,8 @@ impl Letters {
     pub fn with(mut self, low: u8, high: u8) -> Self
         ensures { λ r. ⌜ Joined (self .of) low high (r .of) ⌝ }
     {
-        let end = wide(high);
-        let mut b = wide(low);
+        let end = numbers::wide(high);
+        let mut b = numbers::wide(low);
         while b <= end {
             self.of[b] = 1;
             b += 1;
@@ -37,7 +37,7 @@ impl Letters {
     pub fn has(self, b: u8) -> bool
         ensures { λ r. ⌜ r ≡ hasLetter (self .of) b ⌝ }
     {
-        let at = wide(b);
+        let at = numbers::wide(b);
         self.of[at] == 1
     }
 
@@ -108,7 +108,7 @@ impl Prefix {
         ensures { λ r. ⌜ (r ≡ lastOf self) × (r < 256) ⌝ }
     {
         let at = self.len - 1;
-        wide(self.bytes[at])
+        numbers::wide(self.bytes[at])
     }
 }
 
@@ -216,17 +216,11 @@ impl State {
     }
 }
 
-pub fn wide(b: u8) -> usize
-    ensures { λ r. ⌜ (r ≡ b) × (r < 256) ⌝ }
-{
-    b as usize
-}
-
 pub fn slot_of(slot: &[u8; 256], b: usize) -> usize
     requires { ⌜ b < 256 ⌝ }
     ensures { λ r. ⌜ r ≡ getD (now (slot .entry)) b 0 ⌝ }
 {
-    wide(slot[b])
+    numbers::wide(slot[b])
 }
 
 // The count of slot s in the last of `len` places.

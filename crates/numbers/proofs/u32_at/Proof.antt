@@ -1,7 +1,7 @@
 use Rattle.paper.specs.Bytes.{u32At}
 use borrow.Author.Needs.{needs}
-use Rattle.gate.proofs.fields.u32_at.Statement.{statement}
-use Rattle.gate.proofs.fields.u32_at.Tie as tie
+use Rattle.numbers.proofs.u32_at.Statement.{statement}
+use Rattle.numbers.proofs.u32_at.Tie as tie
 
 u16-at-requires : tie.Need-u16-at-requires
 u16-at-requires c κs = search needs
@@ -20,8 +20,7 @@ add-result c = search needs
 
 returns : tie.Need-returns
 unfolding u32At
-returns c =
-    search needs
+returns c = search needs
 
 pub u32-at-spec : {M : Type 1} → statement M
 u32-at-spec =

@@ -1,19 +1,15 @@
-use borrow.Author.Tests.{ne-eqb}
-use Rattle.paper.specs.Bytes.{markAt}
+use borrow.Author.Tests.{eq-eqb, ne-eqb}
 use borrow.Author.Needs.{needs}
-use Rattle.gate.proofs.fields.mark_ok.Statement.{statement}
-use Rattle.gate.proofs.fields.mark_ok.Tie as tie
-
-sub-o : tie.Need-sub-o
-sub-o c = search needs
+use Rattle.paper.specs.Bytes.{markAt}
+use Rattle.numbers.proofs.mark_at.Statement.{statement}
+use Rattle.numbers.proofs.mark_at.Tie as tie
 
 shared-slice-read-if1 : tie.Need-shared-slice-read-if1
 shared-slice-read-if1 c = search needs
 
 returns : tie.Need-returns
 unfolding markAt
-returns c =
-    rw (ne-eqb _ _ (c .if1 .taken))
+returns c = rw (ne-eqb _ _ (c .if1 .taken))
 
 add-if2 : tie.Need-add-if2
 add-if2 c = search needs
@@ -23,8 +19,7 @@ shared-slice-read-if2 c = search needs
 
 returns-2 : tie.Need-returns-2
 unfolding markAt
-returns-2 c =
-    rw (c .before .before .if1 .left, ne-eqb _ _ (c .if2 .taken))
+returns-2 c = rw (eq-eqb _ _ (c .before .before .if1 .left), ne-eqb _ _ (c .if2 .taken))
 
 add-if3 : tie.Need-add-if3
 add-if3 c = search needs
@@ -34,8 +29,7 @@ shared-slice-read-if3 c = search needs
 
 returns-3 : tie.Need-returns-3
 unfolding markAt
-returns-3 c =
-    rw (c .before .before .before .before .if1 .left, c .before .before .if2 .left, ne-eqb _ _ (c .if3 .taken))
+returns-3 c = rw (eq-eqb _ _ (c .before .before .before .before .if1 .left), eq-eqb _ _ (c .before .before .if2 .left), ne-eqb _ _ (c .if3 .taken))
 
 add-result : tie.Need-add-result
 add-result c = search needs
@@ -45,14 +39,12 @@ shared-slice-read-result c = search needs
 
 returns-4 : tie.Need-returns-4
 unfolding markAt
-returns-4 c =
-    rw (c .before .before .before .before .before .if1 .left, c .before .before .before .if2 .left, c .before .if3 .left)
+returns-4 c = rw (eq-eqb _ _ (c .before .before .before .before .before .if1 .left), eq-eqb _ _ (c .before .before .before .if2 .left), eq-eqb _ _ (c .before .if3 .left))
 
-pub mark-ok-spec : {M : Type 1} → statement M
-mark-ok-spec =
+pub mark-at-spec : {M : Type 1} → statement M
+mark-at-spec =
     tie.close
     (tie.spec
-    sub-o
     shared-slice-read-if1
     returns
     add-if2

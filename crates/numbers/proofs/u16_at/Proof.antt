@@ -1,7 +1,7 @@
-use Rattle.paper.specs.Bytes.{u16At}
 use borrow.Author.Needs.{needs}
-use Rattle.gate.proofs.fields.u16_at.Statement.{statement}
-use Rattle.gate.proofs.fields.u16_at.Tie as tie
+use Rattle.paper.specs.Bytes.{u16At}
+use Rattle.numbers.proofs.u16_at.Statement.{statement}
+use Rattle.numbers.proofs.u16_at.Tie as tie
 
 shared-slice-read-wide : tie.Need-shared-slice-read-wide
 shared-slice-read-wide c = search needs
@@ -26,8 +26,7 @@ add-result c = search needs
 
 returns : tie.Need-returns
 unfolding u16At
-returns c =
-    search needs
+returns c = search needs
 
 pub u16-at-spec : {M : Type 1} → statement M
 u16-at-spec =
