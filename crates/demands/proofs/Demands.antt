@@ -18,14 +18,15 @@ use Rattle.paper.specs.Answers as answers
 use Rattle.paper.proofs.WellFormed.{formed, steps-shorter}
 use Rattle.solver.specs.declared.Solved.{Solved}
 use Rattle.solver.specs.Reported.{refused, reported}
-use Rattle.solver.specs.Promise.{Promise}
+use Rattle.solver.specs.Promise as solver
 use Rattle.solver.proofs.Solving.{says-refused, says-answer, work-zeroed}
 use Rattle.maker.specs.declared.Made.{Made}
-use Rattle.maker.specs.Posts.{reportOf, Answered}
+use Rattle.maker.specs.Promise as maker
+use Rattle.maker.specs.Promise.{reportOf}
 use Rattle.maker.proofs.Answers.{not-refused}
 use Rattle.gate.specs.declared.answer.Gate.{Gate}
 use Rattle.gate.specs.Number.{numberOf}
-use Rattle.gate.specs.Promise.{Allowed}
+use Rattle.gate.specs.Promise as gate
 use Rattle.demands.specs.Solved as solved
 use Rattle.demands.specs.Demanded.{Makeable, ListWritten, Judged, StepsShorter}
 use Rattle.demands.proofs.Answering.{answered}
@@ -34,7 +35,7 @@ use Rattle.demands.proofs.Handed.{list-taken, gate-reads, reads-right, 
 -- ---- demand 1: a fault is named by its number, the length reported is 0, and nothing lent is changed
 
 -- the solver: 10 to 19; trials 0 too
-pub demand-1-solver : (sheet : List ℕ) (budget : ℕ) (work out : List ℕ) (r : Solved) (work′ out′ : List ℕ) → Promise sheet budget work out r work′ out′
+pub demand-1-solver : (sheet : List ℕ) (budget : ℕ) (work out : List ℕ) (r : Solved) (work′ out′ : List ℕ) → solver.Promise sheet budget work out r work′ out′
     → 0 < solverRefusal sheet (length work) (length out)
     → (reported r ≡ refused (solverRefusal sheet (length work) (length out))) × (work′ ≡ work) × (out′ ≡ out)
 demand-1-solver sheet budget work out r work′ out′ p h =
@@ -42,7 +43,7 @@ demand-1-solver sheet budget work out r work′ out′ p h =
     (p .said ∙ ap answers.reportOf e, p .cleared ∙ ap (λ (a : Said). workAfter a work) e, p .wrote ∙ ap (λ (a : Said). outAfter a out) e)
 
 -- the maker: 10 to 17, then 20 to 22
-pub demand-1-maker : (sheet : List ℕ) (row n : ℕ) (space space′ : List ℕ) (r : Made) → Answered sheet row n space space′ r
+pub demand-1-maker : (sheet : List ℕ) (row n : ℕ) (space space′ : List ℕ) (r : Made) → maker.Promise sheet row n space space′ r
     → 0 < makerRefusal sheet row n (length space)
     → (reportOf r .number ≡ makerRefusal sheet row n (length space)) × (reportOf r .length ≡ 0) × (space′ ≡ space)
 unfolding makerSays spaceAfter
@@ -51,7 +52,7 @@ demand-1-maker sheet row n space space′ r p h =
     (ap (λ (m : MakerReport). m .number) (p .0), ap (λ (m : MakerReport). m .length) (p .0) ∙ rw e, p .1 ∙ rw e)
 
 -- the gate, which reports its number alone: 30, 31, then 18
-pub demand-1-gate : (list text word work : List ℕ) (g : Gate) (work′ : List ℕ) → Allowed list text word work g work′
+pub demand-1-gate : (list text word work : List ℕ) (g : Gate) (work′ : List ℕ) → gate.Promise list text word work g work′
     → 1 < gateSays list text word (length work)
     → (numberOf g ≡ gateSays list text word (length work)) × (work′ ≡ work)
 unfolding gateLeaves
@@ -60,8 +61,8 @@ demand-1-gate list text word work g work′ p h = (p .says, p .leaves ∙ rw (lt
 -- ---- demand 2: what is found
 
 -- DEMAND 2. For every accepted sheet and every budget, lent 7,564 words and an output of the longest length, whatever the solver's promise allows
--- is answered as `Answered` says; the first 7,564 words of the workspace are then zero, and later words stay.
-pub demand-2 : (sheet : List ℕ) (budget : ℕ) (work out : List ℕ) (r : Solved) (work′ out′ : List ℕ) → Promise sheet budget work out r work′ out′
+-- is answered as `Answered` of specs/Solved says; the first 7,564 words of the workspace are then zero, and later words stay.
+pub demand-2 : (sheet : List ℕ) (budget : ℕ) (work out : List ℕ) (r : Solved) (work′ out′ : List ℕ) → solver.Promise sheet budget work out r work′ out′
     → Accepted sheet → words ≤ length work → longest sheet ≤ length out
     → solved.Answered (sheetOf sheet) budget out out′ (reported r) × (work′ ≡ zeroed words work)
 unfolding words
@@ -72,7 +73,7 @@ demand-2 sheet budget work out r work′ out′ p a b c =
 -- ---- demand 3: what is made, and what is read
 
 -- lent space for it, the maker of a row of an accepted sheet writes the list
-pub list-written : (sheet : List ℕ) (row n : ℕ) (space space′ : List ℕ) (r : Made) → Answered sheet row n space space′ r
+pub list-written : (sheet : List ℕ) (row n : ℕ) (space space′ : List ℕ) (r : Made) → maker.Promise sheet row n space space′ r
     → Makeable sheet row n space → ListWritten sheet row n space r space′
 unfolding makerSays spaceAfter
 list-written sheet row n space space′ r p m =
@@ -85,7 +86,7 @@ list-written sheet row n space space′ r p m =
 
 -- lent the maker's list, the sheet's text, a word of n bytes and 7,564 words, the gate says yes exactly when the row derives the word
 list-judged : (sheet : List ℕ) (row n : ℕ) (space word work : List ℕ) (g : Gate) (work′ : List ℕ) → Makeable sheet row n space
-    → length word ≡ n → words ≤ length work → Allowed (cutList (grammarOf sheet) row n) (textOf sheet) word work g work′ → Judged sheet row word work g work′
+    → length word ≡ n → words ≤ length work → gate.Promise (cutList (grammarOf sheet) row n) (textOf sheet) word work g work′ → Judged sheet row word work g work′
 list-judged sheet row n space word work g work′ m f h p =
     let w = made-formed sheet row n (m .accepted) (m .in-sheet) (m .short) in
     let e = made-length sheet row n (m .accepted) (m .in-sheet) (m .short) in
@@ -102,8 +103,8 @@ list-judged sheet row n space word work g work′ m f h p =
 -- for the list, and whatever the gate's promise allows, lent as many bytes of that space as the maker reported, the sheet's text, the word and
 -- 7,564 words: the list is written, and the gate says yes exactly when the row derives the word, and else no.
 pub demand-3 : (sheet : List ℕ) (row n : ℕ) (space space′ : List ℕ) (r : Made) (word work work′ : List ℕ) (g : Gate)
-    → Answered sheet row n space space′ r
-    → Allowed (take (reportOf r .length) space′) (textOf sheet) word work g work′
+    → maker.Promise sheet row n space space′ r
+    → gate.Promise (take (reportOf r .length) space′) (textOf sheet) word work g work′
     → Makeable sheet row n space → length word ≡ n → words ≤ length work
     → ListWritten sheet row n space r space′ × Judged sheet row word work g work′
 demand-3 sheet row n space space′ r word work work′ g p q m f h =

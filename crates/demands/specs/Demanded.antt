@@ -12,7 +12,7 @@ use Rattle.paper.specs.Cuts.{cutList, Split}
 use Rattle.paper.specs.Gate.{nOf, rowsOf, optionCount, headAt, optionAt, optOf}
 use Rattle.paper.specs.Answers.{words, zeroed, written}
 use Rattle.maker.specs.declared.Made.{Made}
-use Rattle.maker.specs.Posts.{reportOf}
+use Rattle.maker.specs.Promise.{reportOf}
 use Rattle.gate.specs.declared.answer.Gate.{Gate}
 use Rattle.gate.specs.Number.{numberOf}
 

@@ -3,4 +3,4 @@ pub mod OptionLaws
 pub mod ListLaws
 pub mod Formed
 pub mod Stages
-pub mod Alone
+pub mod Coincide

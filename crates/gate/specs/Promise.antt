@@ -7,7 +7,6 @@ use Rattle.paper.specs.Answers.{gateSays, gateLeaves}
 use Rattle.gate.specs.declared.answer.Gate.{Gate}
 use Rattle.gate.specs.Number.{numberOf}
 
--- an answer and the workspace after the call, as the gate promises them
-pub record Allowed (list text word work : List ℕ) (g : Gate) (work′ : List ℕ) : Type 0 where
+pub record Promise (list text word work : List ℕ) (g : Gate) (work′ : List ℕ) : Type 0 where
   pub says : numberOf g ≡ gateSays list text word (length work)
   pub leaves : work′ ≡ gateLeaves (numberOf g) work

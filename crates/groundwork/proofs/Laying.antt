@@ -8,9 +8,10 @@ use mathlib.Core.List.{List}
 use native.Mathlib.Nat.{not-suc-le-zero}
 use native.Mathlib.Omega.{arith}
 use native.Mathlib.Decide.{ℕ-discrete}
-use lib.ListN.{length, getD, set, length-set, List·getD-eq-default}
+use lib.ListN.{length, getD, set, length-set}
 use lib.Seq.{getD-set-same, getD-set-other}
 use borrow.Author.Count.{below-more}
+use Rattle.paper.proofs.Reaching.{outside}
 use Rattle.paper.specs.Rows.{Range, Text, Seq, Star, Grammar, row}
 use Rattle.paper.specs.Refusals.{refusal}
 use Rattle.paper.specs.Sheet.{Sheet, letter, textOf, grammarOf, sheetOf}
@@ -160,10 +161,6 @@ module _ (g : Grammar) where
 -- ---- the whole
 
 -- a row that is not in the table neither splits nor is a text row
-outside : (g : Grammar) (q : ℕ) → length (g .rows) ≤ q → row g q ≡ Range 1 0
-unfolding row
-outside g q h = List·getD-eq-default (g .rows) (Range 1 0) h
-
 splits-below : (g : Grammar) (q a b : ℕ) → Splits q (row g q) a b → q < length (g .rows)
 splits-below g q a b x = lt-or-le q (length (g .rows)) (λ h. h) (λ h. absurd (⊎-elim (λ e. clash (outside g q h) (inl e)) (λ e. clash (outside g q h) (inr (e .0))) (splits-which x)))
   where

@@ -22,7 +22,7 @@ use Rattle.sheet.proofs.Good.{good}
 use Rattle.maker.specs.declared.Made.the-variants.{Written, Refused}
 use Rattle.maker.specs.Parts.{Put, offsetBytes, mark, endingBytes, trailerBytes}
 use Rattle.maker.specs.Prepared.{Offsets, JobOf}
-use Rattle.maker.specs.Posts.{Answered}
+use Rattle.maker.specs.Promise.{Promise}
 use Rattle.maker.proofs.Stores.{put-more, put-same, put-written}
 
 -- ---- the trailer, and the whole list
@@ -77,12 +77,12 @@ module _ (s : List ℕ) (row n space : ℕ) where
 
 module _ (s : List ℕ) (row n : ℕ) (old : List ℕ) where
   -- a refusal reports its number and changes nothing
-  pub answer-refused : (k : ℕ) → makerRefusal s row n (length old) ≡ k → (k ≡ 0 → ⊥) → Answered s row n old old (Refused k)
+  pub answer-refused : (k : ℕ) → makerRefusal s row n (length old) ≡ k → (k ≡ 0 → ⊥) → Promise s row n old old (Refused k)
   unfolding makerSays spaceAfter
   answer-refused k e h = (rw (e, ne-eqb k 0 h), rw (e, ne-eqb k 0 h))
 
   pub answer-written : (k : ℕ) (now : List ℕ) → makerRefusal s row n (length old) ≡ 0 → k ≡ length (cutList (grammarOf s) row n) → now ≡ written (cutList (grammarOf s) row n) old
-      → Answered s row n old now (Written k)
+      → Promise s row n old now (Written k)
   unfolding makerSays spaceAfter
   answer-written k now e h w = (rw (e, h), rw e w)
 

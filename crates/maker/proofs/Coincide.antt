@@ -11,7 +11,7 @@ use Rattle.paper.specs.Answers.{MakerReport, makerRefusal, makerSays}
 use Rattle.paper.proofs.Encoding.{length-list}
 use Rattle.maker.specs.declared.Made.{Made}
 use Rattle.maker.specs.declared.Made.the-variants.{Written, Refused}
-use Rattle.maker.specs.Posts.{reportOf, Answered}
+use Rattle.maker.specs.Promise.{reportOf, Promise}
 
 -- a list is never empty, so no refusal reports what a list written reports
 not-both : (s : List ℕ) (row n space k c : ℕ) → reportOf (Written k) ≡ makerSays s row n space → reportOf (Refused c) ≡ makerSays s row n space → ⊥
@@ -27,5 +27,5 @@ same-report s row n space (Written k) (Refused c) e f = absurd (not-both s row n
 same-report s row n space (Refused k) (Written c) e f = absurd (not-both s row n space c k f e)
 same-report s row n space (Refused k) (Refused c) e f = ap Refused (ap (λ (r : MakerReport). r .number) (e ∙ sym f))
 
-pub results-coincide : (s : List ℕ) (row n : ℕ) (old now next : List ℕ) (x y : Made) → Answered s row n old now x → Answered s row n old next y → (x ≡ y) × (now ≡ next)
-results-coincide s row n old now next x y a b = (same-report s row n (length old) x y (a .0) (b .0), a .1 ∙ sym (b .1))
+pub coincide : (s : List ℕ) (row n : ℕ) (old now next : List ℕ) (x y : Made) → Promise s row n old now x → Promise s row n old next y → (x ≡ y) × (now ≡ next)
+coincide s row n old now next x y a b = (same-report s row n (length old) x y (a .0) (b .0), a .1 ∙ sym (b .1))

@@ -1,3 +1,3 @@
 pub mod Parts
 pub mod Prepared
-pub mod Posts
+pub mod Promise

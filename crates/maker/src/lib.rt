@@ -11,7 +11,7 @@ ghost use Rattle.paper.specs.Tests.{gather};
 ghost use Rattle.paper.specs.Answers.{makerSays, spaceAfter};
 ghost use Rattle.maker.specs.Parts.{Put, offsetBytes, endingBytes, trailerBytes};
 ghost use Rattle.maker.specs.Prepared.{JobOf};
-ghost use Rattle.maker.specs.Posts.{reportOf};
+ghost use Rattle.maker.specs.Promise.{reportOf};
 
 // Where the rows of an accepted sheet begin, how many there are, and the list's length.
 pub struct Job {

@@ -1,4 +1,4 @@
-pub mod Alone
+pub mod Coincide
 pub mod Rules
 pub mod Good
 pub mod Contents

@@ -5,7 +5,7 @@ ghost use lib.ListN.{length};
 ghost use Rattle.paper.specs.Answers.{reportOf, outAfter, workAfter, makerSays, spaceAfter, gateSays, gateLeaves};
 ghost use Rattle.solver.specs.Reported.{refused, reported};
 ghost use Rattle.solver.specs.Promise.{says};
-ghost use Rattle.maker.specs.Posts.{reportOf as making};
+ghost use Rattle.maker.specs.Promise.{reportOf as making};
 ghost use Rattle.strovimel_c.specs.Structs.{solvedReport, madeReport};
 
 // The solver's answer: its number, the word's length, the trials.

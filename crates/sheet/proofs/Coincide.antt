@@ -1,4 +1,4 @@
--- Two answers that the promise of `check` allows for one sheet are one answer: the number has an inverse.
+-- Two verdicts that the promise of `check` allows coincide: the number has an inverse.
 -- Assumes nothing.
 use Prim.Native.Nat.{ℕ}
 use mathlib.Core.List.{List}
@@ -32,5 +32,5 @@ back Offsets = refl
 back Record = refl
 back Term = refl
 
-pub alone : (s : List ℕ) (v w : Verdict) → numberOf v ≡ refusal s → numberOf w ≡ refusal s → v ≡ w
-alone s v w p q = sym (back v) ∙ ap verdictOf (p ∙ sym q) ∙ back w
+pub coincide : (s : List ℕ) (v w : Verdict) → numberOf v ≡ refusal s → numberOf w ≡ refusal s → v ≡ w
+coincide s v w p q = sym (back v) ∙ ap verdictOf (p ∙ sym q) ∙ back w

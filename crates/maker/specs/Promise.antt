@@ -1,4 +1,4 @@
--- What the maker's answers say in the paper's numbers.
+-- What `make` promises, in the paper's numbers.
 use Prim.Native.Nat.{ℕ}
 use mathlib.Core.Path.{_≡_}
 use mathlib.Core.List.{List}
@@ -13,5 +13,5 @@ reportOf (Written k) = record { number = 0; length = k }
 reportOf (Refused n) = record { number = n; length = 0 }
 
 -- what `make` promises, on any arguments: what is reported, and the space after the call
-abbrev pub Answered : (s : List ℕ) (row n : ℕ) (space space′ : List ℕ) → Made → Type 0
-Answered s row n space space′ r = (reportOf r ≡ makerSays s row n (length space)) × (space′ ≡ spaceAfter s row n space)
+abbrev pub Promise : (s : List ℕ) (row n : ℕ) (space space′ : List ℕ) → Made → Type 0
+Promise s row n space space′ r = (reportOf r ≡ makerSays s row n (length space)) × (space′ ≡ spaceAfter s row n space)
