@@ -10,12 +10,12 @@ use Rattle.paper.specs.Tests.{anyBelow}
 use Rattle.paper.specs.Rows.{stretch}
 use Rattle.paper.specs.Terms.{Place}
 use Rattle.paper.specs.Sheet.{Sheet, Derived, Contains, Equals, claimOf, sheetOf, grammarOf, textOf}
-use Rattle.paper.specs.Decide.{fits, accepts}
+use Rattle.paper.specs.Decide.{fits}
 use Rattle.paper.specs.Opens.{pattern, canHold}
 use Rattle.paper.proofs.Tests.{any-intro, any-elim}
 use Rattle.groundwork.specs.Places.{placesIn}
 use Rattle.groundwork.specs.Ground.{Ground}
-use Rattle.chart.specs.Cells.{canHoldAll, derivable}
+use Rattle.chart.specs.Cells.{canHoldAll}
 use Rattle.chart.proofs.Owning.{text-held}
 use Rattle.terms.proofs.Showing.{places-length}
 
@@ -43,13 +43,6 @@ module _ (S : Sheet) (places : List ℕ) (a b : ℕ) where
           let n = places-length places in
           absurd (true≢false (sym (w .2) ∙ h (w .0) (omega (arith, w .1))))
 
--- ---- a row
-
-pub derived : (s places : List ℕ) (row : ℕ) (x : Bool) → x ≡ derivable s places (length places) 0 row
-    → (u : List Place) → x ≡ canHold (sheetOf s) (Derived row) (placesIn places) u
-unfolding canHold sheetOf
-derived s places row x e u = e ∙ ap (λ (n : ℕ). accepts (grammarOf s) (pattern (sheetOf s) (placesIn places)) n 0 row) (sym (places-length places))
-
 -- ---- which claim a kind is
 
 module _ (kind a b : ℕ) where
@@ -65,7 +58,7 @@ module _ (kind a b : ℕ) where
   unfolding claimOf
   claim-equals e = rw (ne-eqb kind 1 (λ q. omega arith), ne-eqb kind 2 (λ q. omega arith))
 
-text-is : (s : List ℕ) → sheetOf s .grammar .text ≡ textOf s
+pub text-is : (s : List ℕ) → sheetOf s .grammar .text ≡ textOf s
 unfolding sheetOf grammarOf
 text-is s = refl
 

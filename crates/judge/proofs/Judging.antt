@@ -1,33 +1,35 @@
 -- One assertion, and all of them.
-use Prim.Native.Nat.{ℕ, zero, suc, _+_, _<_, _≤_}
+use Prim.Native.Nat.{ℕ, _+_, _<_, _≤_}
 use mathlib.Core.Path.{_≡_, refl, sym, ap, subst, _∙_}
-use mathlib.Core.Bool.{Bool, true, false, not, cond, _&&_, _||_, true≢false}
-use mathlib.Core.Logic.{_≢_}
+use mathlib.Core.Bool.{Bool, true, false, not, cond, _&&_, true≢false}
 use mathlib.Core.List.{List}
 use native.Mathlib.Omega.{arith}
 use native.Mathlib.Decide.{ℕ-discrete}
 use borrow.Author.Tests.{eq-eqb, ne-eqb}
 use lib.Dec.{eqb}
-use lib.ListN.{length, getD, drop, take}
-use Rattle.paper.specs.Answers.{words}
+use lib.ListN.{getD}
 use Rattle.paper.specs.Tests.{anyOf, allOf}
 use Rattle.paper.specs.Trailer.{countOf, longest, recordAt}
 use Rattle.paper.specs.Records.{termLen}
 use Rattle.paper.specs.Terms.{Place, Known, placesOf, term, cutInside}
 use Rattle.paper.specs.Sheet as contents
-use Rattle.paper.specs.Sheet.{Sheet, Derived, Contains, Equals, Run, claimOf, secondRun, partsOf, inside, sheetOf, textOf, grammarOf}
+use Rattle.paper.specs.Sheet.{Sheet, Derived, Run, claimOf, secondRun, partsOf, inside, sheetOf, textOf}
 use Rattle.paper.specs.Open.{termPlaces}
 use Rattle.paper.specs.Opens.{isUnknown, canHold, canFail, can, possible, opens}
-use Rattle.paper.proofs.Tests.{all-of-at, at-all-of, and-intro, and-left, and-right, all-of-nil}
+use Rattle.paper.proofs.Tests.{all-of-at, at-all-of}
 use Rattle.sheet.specs.declared.Assertion.{Assertion}
 use Rattle.sheet.specs.Readers.{assertionOf}
 use Rattle.sheet.proofs.Contents.{assertions-length}
 use Rattle.chart.specs.Cells.{Within}
 use Rattle.terms.specs.declared.Places.{Places}
-use Rattle.terms.specs.Shown.{shown, Sized, runOf, Readable}
+use Rattle.terms.specs.Shown.{shown, runOf, Readable}
 use Rattle.judge.specs.declared.Runs.{Runs}
-use Rattle.judge.specs.Judged.{Told, runsOf, possibleOn}
-use Rattle.judge.proofs.Claiming.{claim-derived, claim-contains, claim-equals}
+use Rattle.judge.specs.declared.held.Held.{Held}
+use Rattle.judge.specs.declared.Ruled.{Ruled}
+use Rattle.judge.specs.Charts.{termOn, Keeps}
+use Rattle.judge.specs.Judged.{Told, runsOf, possibleOn, Judged}
+use Rattle.judge.proofs.Claiming.{claim-derived, claim-contains, claim-equals, text-is}
+use Rattle.judge.proofs.Holding.{none-held}
 
 -- ---- the workspace
 
@@ -58,9 +60,10 @@ module _ (S : Sheet) (a : contents.Assertion) (T U : List Place) where
 
 -- ---- the runs
 
-text-is : (s : List ℕ) → sheetOf s .grammar .text ≡ textOf s
-unfolding sheetOf grammarOf
-text-is s = refl
+-- a term as it was laid out
+pub laid-on : (s : List ℕ) (W T : List Place) (r : Run) → T ≡ term Known (textOf s) W (partsOf (sheetOf s) r) → T ≡ termOn (sheetOf s) W r
+unfolding termOn
+laid-on s W T r e = e ∙ ap (λ (t : List ℕ). term Known t W (partsOf (sheetOf s) r)) (sym (text-is s))
 
 module _ (s : List ℕ) (a : Assertion) (t : Told s a) where
   second-is : secondRun (claimOf (a .kind) (a .a) (a .b)) ≡ runOf (runsOf a .first2) (runsOf a .count2)
@@ -126,14 +129,11 @@ module _ (s : List ℕ) (a : Assertion) (t : Told s a) where
     outside-second W e f = rw (inside-is, ← e, ← f)
 
     pub inside-both : (W T U : List Place) (x : Bool) → true ≡ one → true ≡ two
-        → T ≡ term Known (textOf s) W (partsOf (sheetOf s) (runOf (runsOf a .first) (runsOf a .count)))
-        → U ≡ term Known (textOf s) W (partsOf (sheetOf s) (runOf (runsOf a .first2) (runsOf a .count2)))
+        → T ≡ termOn (sheetOf s) W (runOf (runsOf a .first) (runsOf a .count))
+        → U ≡ termOn (sheetOf s) W (runOf (runsOf a .first2) (runsOf a .count2))
         → x ≡ can (sheetOf s) (assertionOf a) T U → x ≡ possibleOn (sheetOf s) n W (assertionOf a)
     unfolding possibleOn runsOf
-    inside-both W T U x e f g h k =
-        let g′ = g ∙ ap (λ (t : List ℕ). term Known t W (partsOf (sheetOf s) (runOf (runsOf a .first) (runsOf a .count)))) (sym (text-is s)) in
-        let h′ = h ∙ ap (λ (t : List ℕ). term Known t W (partsOf (sheetOf s) (runOf (runsOf a .first2) (runsOf a .count2)))) (sym (text-is s)) in
-        rw (inside-is, ← e, ← f, second-is, ← g′, ← h′) k
+    inside-both W T U x e f g h k = rw (inside-is, ← e, ← f, second-is, ← g, ← h) k
 
 -- ---- all assertions
 
@@ -167,12 +167,36 @@ module _ (s : List ℕ) (n : ℕ) (p : List ℕ) where
 
 -- over the places of v it is the paper's
 pub on-places : (s : List ℕ) (n : ℕ) (p : List ℕ) (W : List Place) (a : contents.Assertion) → W ≡ placesOf n p → possibleOn (sheetOf s) n W a ≡ possible (sheetOf s) n p a
-unfolding possibleOn possible termPlaces
+unfolding possibleOn possible termPlaces termOn
 on-places s n p W a e = rw e
 
 pub judged-is : (s : List ℕ) (n : ℕ) (p : List ℕ) (v : Places) (a : contents.Assertion) (x : Bool)
     → x ≡ possibleOn (sheetOf s) (v .len) (shown v) a → v .len ≡ n → shown v ≡ placesOf n p → x ≡ possible (sheetOf s) n p a
 judged-is s n p v a x e l w = e ∙ ap (λ (k : ℕ). possibleOn (sheetOf s) k (shown v) a) l ∙ on-places s n p (shown v) a w
+
+-- ---- the loop over the assertions
+
+-- the assertions below i are possible, and the workspace holds what it is said to hold
+pub record Upto (s : List ℕ) (n : ℕ) (p : List ℕ) (v : Places) (i : ℕ) (h : Held) (start work : List ℕ) : Type 0 where
+  pub possible : PossibleTo s n p i
+  pub within : Within start work
+  pub keeps : Keeps s (shown v) h work
+
+module _ (s : List ℕ) (n : ℕ) (p : List ℕ) (v : Places) where
+  pub upto-none : (work : List ℕ) → Upto s n p v 0 (record { any = false; first = 0; count = 0 }) work work
+  upto-none work = record { possible = λ j d l. absurd (omega arith); within = within-none work; keeps = none-held s (shown v) work }
+
+  module _ (len : v .len ≡ n) (is : shown v ≡ placesOf n p) (i : ℕ) (h : Held) (start old new : List ℕ) (u : Upto s n p v i h start old)
+      (a : Assertion) (here : (d : contents.Assertion) → assertionOf a ≡ getD (sheetOf s .assertions) i d) (r : Ruled) (j : Judged s v a r old new) where
+    pub upto-more : r .ok ≡ true → Upto s n p v (i + 1) (r .held) start new
+    upto-more e = record {
+      possible = possible-more s n p i (assertionOf a) (u .possible) here (sym (judged-is s n p v (assertionOf a) (r .ok) (j .right) len is) ∙ e);
+      within = within-more start old new (u .within) (j .within);
+      keeps = j .keeps;
+    }
+
+    pub upto-shut : i < countOf s 4 → r .ok ≡ false → false ≡ opens (sheetOf s) n p
+    upto-shut l e = one-impossible s n p i (assertionOf a) l here (sym (judged-is s n p v (assertionOf a) (r .ok) (j .right) len is) ∙ e)
 
 -- ---- the same of the runs as the code has them
 
@@ -182,6 +206,10 @@ module _ (s : List ℕ) (a : Assertion) (t : Told s a) (r : Runs) (e : r ≡ run
 
   pub got-second : r .first2 + r .count2 ≤ countOf s 3
   got-second = subst (λ (x : Runs). x .first2 + x .count2 ≤ countOf s 3) (sym e) (run-second s a t)
+
+  pub laid-first : (W T : List Place) → T ≡ term Known (textOf s) W (partsOf (sheetOf s) (runOf (r .first) (r .count))) → T ≡ termOn (sheetOf s) W (runOf (a .first) (a .count))
+  unfolding runsOf
+  laid-first W T y = laid-on s W T (runOf (r .first) (r .count)) y ∙ ap (λ (x : Runs). termOn (sheetOf s) W (runOf (x .first) (x .count))) e
 
   module _ (n : ℕ) (h : n ≤ longest s) where
     abbrev insideFirst : Runs → Bool
@@ -203,10 +231,10 @@ module _ (s : List ℕ) (a : Assertion) (t : Told s a) (r : Runs) (e : r ≡ run
     end-second W y z = outside-second s a t n h W (y ∙ ap insideFirst e) (z ∙ ap insideSecond e)
 
     pub end-both : (W T U : List Place) (x : Bool) → true ≡ insideFirst r → true ≡ insideSecond r
-        → T ≡ term Known (textOf s) W (partsOf (sheetOf s) (runOf (r .first) (r .count)))
-        → U ≡ term Known (textOf s) W (partsOf (sheetOf s) (runOf (r .first2) (r .count2)))
+        → T ≡ termOn (sheetOf s) W (runOf (r .first) (r .count))
+        → U ≡ termOn (sheetOf s) W (runOf (r .first2) (r .count2))
         → x ≡ can (sheetOf s) (assertionOf a) T U → x ≡ possibleOn (sheetOf s) n W (assertionOf a)
     end-both W T U x y z f g k =
         inside-both s a t n h W T U x (y ∙ ap insideFirst e) (z ∙ ap insideSecond e)
-        (f ∙ ap (λ (q : Runs). term Known (textOf s) W (partsOf (sheetOf s) (runOf (q .first) (q .count)))) e)
-        (g ∙ ap (λ (q : Runs). term Known (textOf s) W (partsOf (sheetOf s) (runOf (q .first2) (q .count2)))) e) k
+        (f ∙ ap (λ (q : Runs). termOn (sheetOf s) W (runOf (q .first) (q .count))) e)
+        (g ∙ ap (λ (q : Runs). termOn (sheetOf s) W (runOf (q .first2) (q .count2))) e) k

@@ -1,2 +1,3 @@
 pub mod Claiming
+pub mod Holding
 pub mod Judging

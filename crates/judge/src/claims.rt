@@ -1,7 +1,8 @@
 // Can a claim be made to hold of its terms?
 ghost use mathlib.Core.Path.{_≡_};
+ghost use mathlib.Core.Bool.{true};
 ghost use mathlib.Core.List.{List};
-ghost use Prim.Native.Nat.{ℕ, _+_, _≤_, _<_};
+ghost use Prim.Native.Nat.{_+_, _≤_, _<_};
 ghost use lib.ListN.{length, take};
 ghost use Rattle.paper.specs.Rows.{stretch};
 ghost use Rattle.paper.specs.Trailer.{countOf};
@@ -12,9 +13,10 @@ ghost use Rattle.paper.specs.Decide.{fits};
 ghost use Rattle.paper.specs.Opens.{pattern, canHold};
 ghost use Rattle.groundwork.specs.Ground.{Ground};
 ghost use Rattle.groundwork.specs.Places.{placesIn};
-ghost use Rattle.chart.specs.Cells.{Within};
+ghost use Rattle.chart.specs.Cells.{Within, Charted};
 ghost use Rattle.terms.specs.Shown.{shown, Sized};
 ghost use Rattle.judge.specs.Judged.{Told};
+ghost use Rattle.judge.specs.Charts.{Charts, Left};
 
 // The places from i on can hold b bytes of the text from a on.
 fn holds_at(s: &[u8], a: usize, b: usize, places: &[u16], i: usize, lay: &[u64]) -> bool
@@ -42,20 +44,31 @@ fn can_contain(s: &[u8], a: usize, b: usize, places: &[u16], lay: &[u64]) -> boo
     false
 }
 
-// The row derives some filling of the places.
+// The row derives some filling of the places, whose chart is filled for it.
 fn can_derive(s: &[u8], row: usize, places: &[u16], lay: &[u64], work: &mut [u64]) -> bool
     requires { ⌜ (refusal (now s) ≡ 0) × Ground (sheetOf (now s)) (now lay) × (row < countOf (now s) 2) × (length (now places) ≤ 60) × (7564 ≤ length (now work)) ⌝ }
-    ensures { λ r. ⌜ ((u : List Place) → r ≡ canHold (sheetOf (now (s .entry))) (Derived row) (placesIn (now (places .entry))) u) × Within (now (work .entry)) (now (work .exit)) ⌝ }
+    ensures { λ r. ⌜ ((u : List Place) → r ≡ canHold (sheetOf (now (s .entry))) (Derived row) (placesIn (now (places .entry))) u) × Charted (now (s .entry)) (now (places .entry)) (now (work .entry)) (now (work .exit)) ⌝ }
 {
     chart::fill(s, places, lay, work);
     chart::derives(places.len(), row, work)
 }
 
-// The first `len` places, for a row.
-fn derive_from(s: &[u8], row: usize, of: &[u16], len: usize, lay: &[u64], work: &mut [u64]) -> bool
-    requires { ⌜ (refusal (now s) ≡ 0) × Ground (sheetOf (now s)) (now lay) × (row < countOf (now s) 2) × (len ≤ 60) × (len ≤ length (now of)) × (7564 ≤ length (now work)) ⌝ }
-    ensures { λ r. ⌜ ((u : List Place) → r ≡ canHold (sheetOf (now (s .entry))) (Derived row) (placesIn (take len (now (of .entry)))) u) × Within (now (work .entry)) (now (work .exit)) ⌝ }
+// The first `len` places, for a row; `have` says that the workspace holds their chart already.
+fn derive_from(
+    s: &[u8],
+    row: usize,
+    of: &[u16],
+    len: usize,
+    have: bool,
+    lay: &[u64],
+    work: &mut [u64],
+) -> bool
+    requires { ⌜ (refusal (now s) ≡ 0) × Ground (sheetOf (now s)) (now lay) × (row < countOf (now s) 2) × (len ≤ 60) × (len ≤ length (now of)) × (7564 ≤ length (now work)) × (have ≡ true → Charts (now s) (placesIn (take len (now of))) (now work)) ⌝ }
+    ensures { λ r. ⌜ ((u : List Place) → r ≡ canHold (sheetOf (now (s .entry))) (Derived row) (placesIn (take len (now (of .entry)))) u) × Within (now (work .entry)) (now (work .exit)) × Charts (now (s .entry)) (placesIn (take len (now (of .entry)))) (now (work .exit)) ⌝ }
 {
+    if have {
+        return chart::derives(len, row, work);
+    }
     can_derive(s, row, &of[0..len], lay, work)
 }
 
@@ -67,21 +80,22 @@ fn contain_from(s: &[u8], a: usize, b: usize, of: &[u16], len: usize, lay: &[u64
     can_contain(s, a, b, &of[0..len], lay)
 }
 
-// The claim can be made to hold.
+// The claim can be made to hold; `have` says that the workspace holds the chart of p already.
 pub fn can_hold(
     s: &[u8],
     a: sheet::Assertion,
     p: terms::Places,
     q: terms::Places,
+    have: bool,
     lay: &[u64],
     work: &mut [u64],
 ) -> bool
-    requires { ⌜ (refusal (now s) ≡ 0) × Ground (sheetOf (now s)) (now lay) × Told (now s) a × Sized p × Sized q × (7564 ≤ length (now work)) ⌝ }
-    ensures { λ r. ⌜ (r ≡ canHold (sheetOf (now (s .entry))) (claimOf (a .kind) (a .a) (a .b)) (shown p) (shown q)) × Within (now (work .entry)) (now (work .exit)) ⌝ }
+    requires { ⌜ (refusal (now s) ≡ 0) × Ground (sheetOf (now s)) (now lay) × Told (now s) a × Sized p × Sized q × (7564 ≤ length (now work)) × (have ≡ true → Charts (now s) (shown p) (now work)) ⌝ }
+    ensures { λ r. ⌜ (r ≡ canHold (sheetOf (now (s .entry))) (claimOf (a .kind) (a .a) (a .b)) (shown p) (shown q)) × Left (now (s .entry)) (a .kind) (shown p) (now (work .entry)) (now (work .exit)) ⌝ }
 {
     let kind = a.kind;
     match kind {
-        1 => derive_from(s, a.a, &p.of, p.len, lay, work),
+        1 => derive_from(s, a.a, &p.of, p.len, have, lay, work),
         2 => contain_from(s, a.a, a.b, &p.of, p.len, lay),
         _ => terms::meets::equal(s, p, q),
     }

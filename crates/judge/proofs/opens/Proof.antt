@@ -1,9 +1,8 @@
 use Prim.Native.Nat.{_-_, _≤_}
-use mathlib.Core.Path.{sym, _∙_}
+use mathlib.Core.Path.{_∙_}
 use native.Mathlib.Omega.{arith}
 use Rattle.sheet.proofs.Good.{good}
-use Rattle.chart.specs.Cells.{Within}
-use Rattle.judge.proofs.Judging.{within-none, within-more, PossibleTo, possible-more, all-possible, one-impossible, judged-is}
+use Rattle.judge.proofs.Judging.{within-more, all-possible, Upto, upto-none, upto-more, upto-shut}
 use Rattle.judge.proofs.opens.Statement.{statement}
 use Rattle.judge.proofs.opens.Tie as tie
 use Rattle.judge.proofs.opens.Reads as reads
@@ -14,10 +13,10 @@ use Rattle.terms.proofs.all_of_v.Reads as all-of-v-reads
 use Rattle.trailer.proofs.field.Reads as field-reads
 
 abbrev Inv-loop : tie.InvT-loop
-Inv-loop s prefix n lay work₀ v at from count i₀ work i = PossibleTo s n prefix i × Within work₀ work × (i ≤ count)
+Inv-loop s prefix n lay work₀ v at from count held₀ i₀ work held i = Upto s n prefix v i held work₀ work × (i ≤ count)
 
 abbrev μ-loop : tie.MeasureT-loop
-μ-loop s prefix n lay work₀ v at from count i₀ work i = count - i
+μ-loop s prefix n lay work₀ v at from count held₀ i₀ work held i = count - i
 
 all-of-v-requires : tie.Need-all-of-v-requires Inv-loop μ-loop
 all-of-v-requires c κs = (c .before .before .before .before .pre .2, omega (arith, good _ (c .before .before .before .before .pre .0) .short, c .before .before .before .before .pre .3))
@@ -32,45 +31,45 @@ field-requires-3 : tie.Need-field-requires-3 Inv-loop μ-loop
 field-requires-3 c κs = (good _ (c .before .before .before .before .before .before .before .pre .0) .low, omega arith)
 
 loop-holds : tie.Need-loop-holds Inv-loop μ-loop
-loop-holds c = ((λ j d l. absurd (omega arith)), within-none _, omega arith)
+loop-holds c = (upto-none _ _ _ _ _, omega arith)
 
 assertion-at-requires : tie.Need-assertion-at-requires Inv-loop μ-loop
 assertion-at-requires c κs = (c .before .before .before .before .before .before .before .before .before .before .pre .0, c .before .before .before .field2 .ensures .0, omega (arith, c .before .before .field3 .ensures .0, c .loop-test .taken))
 
 possible-requires : tie.Need-possible-requires Inv-loop μ-loop
 possible-requires c κs =
+    let s = c .before .before .before .before .before .before .before .before .before .before .before .before in
     let a = c .before .assertion-at .ensures in
-    (c .before .before .before .before .before .before .before .before .before .before .before .before .pre .0, c .before .before .before .before .before .before .before .before .before .before .before .before .pre .1, record { facts = a .facts; terms = a .terms }, c .before .before .before .before .before .before .field .ensures .0, c .before .before .before .before .before .before .before .all-of-v .ensures .1, omega (arith, c .before .before .before .before .before .before .before .all-of-v .ensures .2, c .before .before .before .before .before .before .before .before .before .before .before .before .pre .3), omega (arith, c .before .before .before .loop .inv .1 .long, c .before .before .before .before .before .before .before .before .before .before .before .before .pre .4))
+    let u = c .before .before .before .loop .inv .0 in
+    let v = c .before .before .before .before .before .before .before .all-of-v .ensures in
+    (s .pre .0, s .pre .1, record { facts = a .facts; terms = a .terms }, c .before .before .before .before .before .before .field .ensures .0, v .1, omega (arith, v .2, s .pre .3), omega (arith, u .within .long, s .pre .4), u .keeps)
 
 add-i : tie.Need-add-i Inv-loop μ-loop
-add-i c = omega (arith, c .before .before .before .before .before .before .before .before .field3 .ensures .1, c .before .before .before .before .before .before .loop-test .taken)
+add-i c = omega (arith, c .before .before .before .before .before .before .before .before .before .field3 .ensures .1, c .before .before .before .before .before .before .before .loop-test .taken)
 
 loop-less : tie.Need-loop-less Inv-loop μ-loop
-loop-less c = omega (arith, c .before .before .before .before .before .before .loop-test .taken)
+loop-less c = omega (arith, c .before .before .before .before .before .before .before .loop-test .taken)
 
 loop-again : tie.Need-loop-again Inv-loop μ-loop
-loop-again c = (
-  possible-more _ _ _ _ _ (c .before .before .before .before .before .before .before .loop .inv .0) (c .before .before .before .before .before .assertion-at .ensures .same)
-      (sym (judged-is _ _ _ _ _ _ (c .before .before .before .possible .ensures .0) (c .before .before .before .before .before .before .before .before .before .before .before .all-of-v .ensures .2) (c .before .before .before .before .before .before .before .before .before .before .before .all-of-v .ensures .0)) ∙ c .if1 .taken),
-  within-more _ _ _ (c .before .before .before .before .before .before .before .loop .inv .1) (c .before .before .before .possible .ensures .1),
-  omega (arith, c .before .before .before .before .before .before .loop-test .taken),
-)
+loop-again c =
+    let v = c .before .before .before .before .before .before .before .before .before .before .before .before .all-of-v .ensures in
+    (upto-more _ _ _ _ (v .2) (v .0) _ _ _ _ _ (c .before .before .before .before .before .before .before .before .loop .inv .0) _ (c .before .before .before .before .before .before .assertion-at .ensures .same) _ (c .before .before .before .before .possible .ensures) (c .before .if1 .taken), omega (arith, c .before .before .before .before .before .before .before .loop-test .taken))
 
 same-length : tie.Need-same-length Inv-loop μ-loop
-same-length c = c .before .before .before .possible .ensures .1 .long ∙ c .before .before .before .before .before .before .before .loop .inv .1 .long
+same-length c = c .before .before .before .possible .ensures .within .long ∙ c .before .before .before .before .before .before .before .loop .inv .0 .within .long
 
 returns : tie.Need-returns Inv-loop μ-loop
-returns c = (
-  one-impossible _ _ _ _ _ (omega (arith, c .before .before .before .before .before .before .before .before .field3 .ensures .0, c .before .before .before .before .before .before .loop-test .taken)) (c .before .before .before .before .before .assertion-at .ensures .same)
-      (sym (judged-is _ _ _ _ _ _ (c .before .before .before .possible .ensures .0) (c .before .before .before .before .before .before .before .before .before .before .before .all-of-v .ensures .2) (c .before .before .before .before .before .before .before .before .before .before .before .all-of-v .ensures .0)) ∙ c .if1 .left),
-  within-more _ _ _ (c .before .before .before .before .before .before .before .loop .inv .1) (c .before .before .before .possible .ensures .1),
-)
+returns c =
+    let v = c .before .before .before .before .before .before .before .before .before .before .before .all-of-v .ensures in
+    let u = c .before .before .before .before .before .before .before .loop .inv .0 in
+    let x = c .before .before .before .possible .ensures in
+    (upto-shut _ _ _ _ (v .2) (v .0) _ _ _ _ _ u _ (c .before .before .before .before .before .assertion-at .ensures .same) _ x (omega (arith, c .before .before .before .before .before .before .before .before .field3 .ensures .0, c .before .before .before .before .before .before .loop-test .taken)) (c .if1 .left), within-more _ _ _ (u .within) (x .within))
 
 same-length-2 : tie.Need-same-length-2 Inv-loop μ-loop
-same-length-2 c = c .before .loop .inv .1 .long
+same-length-2 c = c .before .loop .inv .0 .within .long
 
 returns-2 : tie.Need-returns-2 Inv-loop μ-loop
-returns-2 c = (all-possible _ _ _ (λ j d l. c .before .loop .inv .0 j d (omega (arith, c .before .before .field3 .ensures .0, c .loop-test .left))), c .before .loop .inv .1)
+returns-2 c = (all-possible _ _ _ (λ j d l. c .before .loop .inv .0 .possible j d (omega (arith, c .before .before .field3 .ensures .0, c .loop-test .left))), c .before .loop .inv .0 .within)
 
 pub opens-spec : {M : Type 1} → statement M
 opens-spec =

@@ -1,5 +1,7 @@
 use mathlib.Core.Path.{sym, _∙_}
-use Rattle.judge.proofs.Judging.{within-none, got-first, got-second, read-first, read-second, end-first, end-second, end-both}
+use native.Mathlib.Omega.{arith}
+use Rattle.judge.proofs.Holding.{meant-here, keeps-on}
+use Rattle.judge.proofs.Judging.{within-none, laid-on, laid-first, got-first, got-second, read-first, read-second, end-first, end-second, end-both}
 use borrow.Author.Needs.{needs}
 use Rattle.judge.proofs.possible.Statement.{statement}
 use Rattle.judge.proofs.possible.Tie as tie
@@ -14,31 +16,63 @@ runs-of-requires : tie.Need-runs-of-requires
 runs-of-requires c κs = search needs
 
 inside-requires : tie.Need-inside-requires
-inside-requires c κs = (c .before .before .before .before .pre .0, c .before .before .before .before .pre .3, got-first _ _ (c .before .before .before .before .pre .2) _ (c .runs-of .ensures))
+inside-requires c κs =
+    let s = c .before .before .before .before in
+    (s .pre .0, s .pre .3, got-first _ _ (s .pre .2) _ (c .runs-of .ensures))
 
 inside-requires-2 : tie.Need-inside-requires-2
-inside-requires-2 c κs = (c .before .before .before .before .before .before .pre .0, c .before .before .before .before .before .before .pre .3, got-second _ _ (c .before .before .before .before .before .before .pre .2) _ (c .before .before .runs-of .ensures))
+inside-requires-2 c κs =
+    let s = c .before .before .before .before .before .before in
+    let g = c .before .before .runs-of .ensures in
+    (s .pre .0, s .pre .3, omega (arith, got-first _ _ (s .pre .2) _ g, got-second _ _ (s .pre .2) _ g))
 
 term-requires : tie.Need-term-requires
-term-requires c κs = (c .before .before .before .before .before .before .before .before .pre .0, c .before .before .before .before .before .before .before .before .pre .3, c .before .before .before .before .before .before .before .before .pre .4, read-first _ _ (c .before .before .before .before .before .before .before .before .pre .2) _ (c .before .before .before .before .runs-of .ensures) _ (c .before .before .before .before .before .before .before .before .pre .5) (sym (c .before .before .before .inside .ensures) ∙ c .before .before .if1 .taken))
+term-requires c κs =
+    let s = c .before .before .before .before .before .before .before .before in
+    (s .pre .0, s .pre .3, s .pre .4, read-first _ _ (s .pre .2) _ (c .before .before .before .before .runs-of .ensures) _ (s .pre .5) (sym (c .before .before .before .inside .ensures) ∙ c .before .before .if1 .taken))
 
 term-requires-2 : tie.Need-term-requires-2
-term-requires-2 c κs = (c .before .before .before .before .before .before .before .before .before .pre .0, c .before .before .before .before .before .before .before .before .before .pre .3, c .before .before .before .before .before .before .before .before .before .pre .4, read-second _ _ (c .before .before .before .before .before .before .before .before .before .pre .2) _ (c .before .before .before .before .before .runs-of .ensures) _ (c .before .before .before .before .before .before .before .before .before .pre .5) (sym (c .before .before .inside2 .ensures) ∙ c .before .if2 .taken))
+term-requires-2 c κs =
+    let s = c .before .before .before .before .before .before .before .before .before in
+    (s .pre .0, s .pre .3, s .pre .4, read-second _ _ (s .pre .2) _ (c .before .before .before .before .before .runs-of .ensures) _ (s .pre .5) (sym (c .before .before .inside2 .ensures) ∙ c .before .if2 .taken))
 
 can-be-requires : tie.Need-can-be-requires
-can-be-requires c κs = search needs
+can-be-requires c κs =
+    let s = c .before .before .before .before .before .before .before .before .before .before .before in
+    (s .pre .0, s .pre .1, s .pre .2, c .before .before .term .ensures .1, c .before .term2 .ensures .1, s .pre .6, meant-here _ _ _ _ _ (laid-first _ _ (s .pre .2) _ (c .before .before .before .before .before .before .before .runs-of .ensures) _ _ (c .before .before .term .ensures .0)) _ _ (s .pre .7))
 
 same-length : tie.Need-same-length
 same-length c = search needs
 
 returns : tie.Need-returns
-returns c = (end-both _ _ (c .before .before .before .before .before .before .before .before .before .before .before .before .before .before .pre .2) _ (c .before .before .before .before .before .before .before .before .before .before .runs-of .ensures) _ (c .before .before .before .before .before .before .before .before .before .before .before .before .before .before .pre .5) _ _ _ _ (sym (c .before .before .before .before .before .before .before .before .if1 .taken) ∙ c .before .before .before .before .before .before .before .before .before .inside .ensures) (sym (c .before .before .before .before .before .before .if2 .taken) ∙ c .before .before .before .before .before .before .before .inside2 .ensures) (c .before .before .before .before .before .term .ensures .0) (c .before .before .before .before .term2 .ensures .0) (c .before .before .can-be .ensures .0), c .before .before .can-be .ensures .1)
+returns c =
+    let s = c .before .before .before .before .before .before .before .before .before .before .before .before .before .before in
+    let x = c .before .before .can-be .ensures in
+    let g = c .before .before .before .before .before .before .before .before .before .before .runs-of .ensures in
+    let t = c .before .before .before .before .before .term .ensures .0 in
+    record {
+      right = end-both _ _ (s .pre .2) _ g _ (s .pre .5) _ _ _ _ (sym (c .before .before .before .before .before .before .before .before .if1 .taken) ∙ c .before .before .before .before .before .before .before .before .before .inside .ensures) (sym (c .before .before .before .before .before .before .if2 .taken) ∙ c .before .before .before .before .before .before .before .inside2 .ensures) (laid-on _ _ _ _ t) (laid-on _ _ _ _ (c .before .before .before .before .term2 .ensures .0)) (x .0);
+      within = x .1 .within;
+      keeps = keeps-on _ _ _ _ _ (laid-first _ _ (s .pre .2) _ g _ _ t) _ _ (s .pre .7) _ _ (x .1);
+    }
 
 returns-2 : tie.Need-returns-2
-returns-2 c = (end-second _ _ (c .before .before .before .before .before .before .before .before .pre .2) _ (c .before .before .before .before .runs-of .ensures) _ (c .before .before .before .before .before .before .before .before .pre .5) _ (sym (c .before .before .if1 .taken) ∙ c .before .before .before .inside .ensures) (sym (c .if2 .left) ∙ c .before .inside2 .ensures), within-none _)
+returns-2 c =
+    let s = c .before .before .before .before .before .before .before .before in
+    record {
+      right = end-second _ _ (s .pre .2) _ (c .before .before .before .before .runs-of .ensures) _ (s .pre .5) _ (sym (c .before .before .if1 .taken) ∙ c .before .before .before .inside .ensures) (sym (c .if2 .left) ∙ c .before .inside2 .ensures);
+      within = within-none _;
+      keeps = s .pre .7;
+    }
 
 returns-3 : tie.Need-returns-3
-returns-3 c = (end-first _ _ (c .before .before .before .before .before .before .pre .2) _ (c .before .before .runs-of .ensures) _ (c .before .before .before .before .before .before .pre .5) _ (sym (c .if1 .left) ∙ c .before .inside .ensures), within-none _)
+returns-3 c =
+    let s = c .before .before .before .before .before .before in
+    record {
+      right = end-first _ _ (s .pre .2) _ (c .before .before .runs-of .ensures) _ (s .pre .5) _ (sym (c .if1 .left) ∙ c .before .inside .ensures);
+      within = within-none _;
+      keeps = s .pre .7;
+    }
 
 pub possible-spec : {M : Type 1} → statement M
 possible-spec =

@@ -1,7 +1,6 @@
-use mathlib.Core.Path.{_∙_}
 use native.Mathlib.Omega.{arith}
 use Rattle.sheet.proofs.Good.{good}
-use Rattle.judge.proofs.Claiming.{derived}
+use Rattle.judge.proofs.Holding.{charts-filled, derived}
 use borrow.Author.Needs.{needs}
 use Rattle.judge.proofs.claims.can_derive.Statement.{statement}
 use Rattle.judge.proofs.claims.can_derive.Tie as tie
@@ -15,16 +14,19 @@ fill-requires c κs = search needs
 
 derives-requires : tie.Need-derives-requires
 derives-requires c κs =
-    let g = good _ (c .before .before .before .before .before .before .before .before .before .pre .0) .counts 2 (omega arith) .1 in
-    (omega (arith, c .before .before .before .before .before .before .before .before .before .pre .3), omega (arith, c .before .before .before .before .before .before .before .before .before .pre .2), omega (arith, c .before .before .before .before .before .before .before .before .before .pre .4, c .before .before .before .fill .ensures .within .long))
+    let s = c .before .before .before .before .before .before .before .before .before in
+    let g = good _ (s .pre .0) .counts 2 (omega arith) .1 in
+    (omega (arith, s .pre .3), omega (arith, s .pre .2), omega (arith, s .pre .4, c .before .before .before .fill .ensures .within .long))
 
 same-length : tie.Need-same-length
 same-length c = search needs
 
 returns : tie.Need-returns
 returns c =
-    let g = good _ (c .before .before .before .before .before .before .before .before .before .before .pre .0) .counts 2 (omega arith) .1 in
-    (derived _ (c .before .before .before .before .before .before .before .before .before .before .args .places .now) _ _ (c .derives .ensures ∙ c .before .before .before .before .fill .ensures .bits _ 0 _ (omega arith) (omega (arith, c .before .before .before .before .before .before .before .before .before .before .pre .2))), c .before .before .before .before .fill .ensures .within)
+    let s = c .before .before .before .before .before .before .before .before .before .before in
+    let g = good _ (s .pre .0) .counts 2 (omega arith) .1 in
+    let f = c .before .before .before .before .fill .ensures in
+    (derived _ (s .args .places .now) _ _ _ (omega (arith, s .pre .2)) (charts-filled _ _ _ _ f) (c .derives .ensures), f)
 
 pub can-derive-spec : {M : Type 1} → statement M
 can-derive-spec = tie.close (tie.spec fill-requires derives-requires same-length returns)
