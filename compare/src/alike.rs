@@ -13,20 +13,33 @@ pub struct Counted {
     /// Held at the largest number when it would be above it.
     pub trials: u128,
     pub found: Option<Vec<u8>>,
+    /// The first subtrees that were passed over.
+    pub passed: Vec<Passed>,
 }
+
+/// The prefixes that begin with a letter that is like an earlier one, after the same prefix.
+#[derive(Clone, Copy, PartialEq, Eq, Debug)]
+pub struct Passed {
+    /// The walk's trials before them.
+    pub before: u128,
+    /// Their trials.
+    pub trials: u128,
+}
+
+/// So many subtrees are kept.
+const KEPT: usize = 1_000;
 
 /// The whole walk, or nothing if more than `limit` prefixes would have to be judged.
 pub fn count(sheet: &Sheet, limit: u64) -> Option<Counted> {
-    let mut walk = Alike { sheet, classes: classes(sheet), left: limit, prefix: Vec::new() };
-    let mut trials: u128 = 0;
+    let classes = classes(sheet);
+    let mut walk = Alike { sheet, classes, left: limit, prefix: vec![], trials: 0, passed: vec![] };
     for n in sheet.shortest..=sheet.longest {
-        let (count, found) = walk.visit(n)?;
-        trials = trials.saturating_add(count);
-        if found {
-            return Some(Counted { trials, found: Some(walk.prefix) });
+        if walk.visit(n)? {
+            let found = Some(walk.prefix);
+            return Some(Counted { trials: walk.trials, found, passed: walk.passed });
         }
     }
-    Some(Counted { trials, found: None })
+    Some(Counted { trials: walk.trials, found: None, passed: walk.passed })
 }
 
 /// For each letter, the number of the first letter that is like it.
@@ -59,35 +72,44 @@ struct Alike<'a> {
     classes: Vec<usize>,
     left: u64,
     prefix: Vec<u8>,
+    trials: u128,
+    passed: Vec<Passed>,
 }
 
 impl Alike<'_> {
-    /// The trials spent on the prefix in hand and its extensions, and whether a word was found.
-    fn visit(&mut self, n: usize) -> Option<(u128, bool)> {
+    /// Walks the prefix in hand and its extensions; whether a word was found.
+    fn visit(&mut self, n: usize) -> Option<bool> {
         self.left = self.left.checked_sub(1)?;
+        self.trials = self.trials.saturating_add(1);
         if !open(self.sheet, &self.prefix, n) {
-            return Some((1, false));
+            return Some(false);
         }
         if self.prefix.len() == n {
-            return Some((1, true));
+            return Some(true);
         }
-        let mut trials: u128 = 1;
         let mut counts: Vec<u128> = Vec::new();
         for (i, &letter) in self.sheet.letters.iter().enumerate() {
+            let before = self.trials;
             let class = self.classes[i];
             if class < i {
-                counts.push(counts[class]);
+                self.pass_over(counts[class]);
             } else {
                 self.prefix.push(letter);
-                let (count, found) = self.visit(n)?;
-                if found {
-                    return Some((trials.saturating_add(count), true));
+                if self.visit(n)? {
+                    return Some(true);
                 }
                 self.prefix.pop();
-                counts.push(count);
             }
-            trials = trials.saturating_add(counts[i]);
+            counts.push(self.trials - before);
         }
-        Some((trials, false))
+        Some(false)
+    }
+
+    /// Adds the trials of prefixes that need not be judged.
+    fn pass_over(&mut self, trials: u128) {
+        if self.passed.len() < KEPT {
+            self.passed.push(Passed { before: self.trials, trials });
+        }
+        self.trials = self.trials.saturating_add(trials);
     }
 }

@@ -1,40 +1,113 @@
-//! Times of whole solves, lists made and words put to the gate, for the sheets of a folder.
+//! Seconds and instructions of whole solves, of a list made and of a word put to the gate.
 
+use std::env;
 use std::fs;
 use std::io;
 use std::path::{Path, PathBuf};
+use std::process::Command;
 use std::time::{Duration, Instant};
 
-use crate::keys::BUDGET;
-use crate::make::Plan;
+use crate::everyday;
+use crate::keys::keys;
 use crate::program::{line, Program};
-use crate::sheet::{Sheet, LENGTH_LIMIT};
+use crate::sheet::LENGTH_LIMIT;
 use crate::solve::WORK;
 
 /// Each measure is repeated until so much time has passed.
 const ENOUGH: Duration = Duration::from_millis(200);
-/// Lists are measured at the longest length at which they are no longer than this.
-const LONGEST_LIST: usize = 4 << 20;
 
-pub fn bench(folder: &Path, programs: &[(&str, &dyn Program)]) -> io::Result<()> {
-    for path in sheets(folder)? {
-        let sheet = fs::read(&path)?;
-        let name = path.file_stem().unwrap_or_default().to_string_lossy();
-        for &(program_name, program) in programs {
-            println!("{name} {program_name}");
-            bench_solve(program, &sheet);
-            bench_list(program, &sheet);
+/// A program, its name on the command line, and a budget that it can walk.
+pub struct Contender {
+    pub name: &'static str,
+    pub program: &'static dyn Program,
+    pub budget: u64,
+}
+
+/// What is measured, with what is lent to it.
+pub enum Task {
+    Solve { sheet: Vec<u8>, work: Vec<u64>, out: Vec<u8> },
+    Make { sheet: Vec<u8>, root: u64, list: Vec<u8> },
+    Gate { list: Vec<u8>, text: Vec<u8>, work: Vec<u64> },
+}
+
+impl Task {
+    /// `make` and `gate` are of the everyday filter's list; any other name is a sheet's path.
+    pub fn new(name: &str) -> io::Result<Task> {
+        let (filter, root) = everyday::filter();
+        let (list, work) = (everyday::list(), vec![0; WORK]);
+        Ok(match name {
+            "make" => Task::Make { sheet: filter.bytes(), root: root.into(), list },
+            "gate" => Task::Gate { list, text: filter.text, work },
+            path => Task::Solve { sheet: fs::read(path)?, work, out: vec![0; LENGTH_LIMIT] },
+        })
+    }
+
+    /// What was answered, and for how many things: trials, bytes, or a word.
+    pub fn call(&mut self, contender: &Contender) -> (String, u64) {
+        let program = contender.program;
+        match self {
+            Task::Solve { sheet, work, out } => {
+                let solved = program.solve(sheet, contender.budget, work, out);
+                (line(&solved, out), solved.trials)
+            }
+            Task::Make { sheet, root, list } => {
+                let made = program.make(sheet, *root, everyday::N as u64, list);
+                (format!("{} {}", made.number, made.length), made.length.into())
+            }
+            Task::Gate { list, text, work } => {
+                (program.gate(list, text, everyday::KEY, work).to_string(), 1)
+            }
         }
+    }
+}
+
+/// A table of every sheet of the folder that is no key, then of the everyday filter's list.
+pub fn bench(folder: &Path, contenders: &[Contender]) -> io::Result<()> {
+    let mut tasks = sheets(folder)?;
+    tasks.extend(["make".into(), "gate".into()]);
+    println!(
+        "{:<20} {:<7} {:>12} {:>10} {:>15} {:>13} {:>10}  answer",
+        "task", "program", "trials", "seconds", "trials/second", "instructions", "a trial"
+    );
+    for task in tasks {
+        for contender in contenders {
+            measure(&task, contender)?;
+        }
+    }
+    println!("make: a list of n = {} over 32 rows, each byte as a trial", everyday::N);
+    println!("gate: a word put to that list, each word as a trial");
+    if Command::new("valgrind").arg("--version").output().is_err() {
+        println!("instructions are counted where valgrind is installed");
     }
     Ok(())
 }
 
-/// The sheets of the folder, by name.
+/// One row of the table.
+fn measure(path: &Path, contender: &Contender) -> io::Result<()> {
+    let mut task = Task::new(&path.to_string_lossy())?;
+    let (answer, things) = task.call(contender);
+    let seconds = seconds(|| {
+        task.call(contender);
+    });
+    let counted = instructions(path, contender.name);
+    let total = counted.map_or("-".into(), |count| count.to_string());
+    let each = counted.map_or("-".into(), |count| format!("{:.1}", count as f64 / things as f64));
+    println!(
+        "{:<20} {:<7} {things:>12} {seconds:>10.6} {:>15.0} {total:>13} {each:>10}  {answer}",
+        path.file_stem().unwrap_or_default().to_string_lossy(),
+        contender.name,
+        things as f64 / seconds,
+    );
+    Ok(())
+}
+
+/// The sheets of the folder but for the keys, by name.
 fn sheets(folder: &Path) -> io::Result<Vec<PathBuf>> {
+    let is_key = |path: &Path| keys().iter().any(|key| path.file_stem() == Some(key.name.as_ref()));
     let mut paths = Vec::new();
     for entry in fs::read_dir(folder)? {
         let path = entry?.path();
-        if path.extension().is_some_and(|extension| extension == "sheet") {
+        if path.extension().is_some_and(|extension| extension == "sheet") && !is_key(&path) {
             paths.push(path);
         }
     }
@@ -53,38 +126,21 @@ fn seconds(mut call: impl FnMut()) -> f64 {
     start.elapsed().as_secs_f64() / f64::from(calls)
 }
 
-fn bench_solve(program: &dyn Program, sheet: &[u8]) {
-    let (mut work, mut out) = (vec![0; WORK], vec![0; LENGTH_LIMIT]);
-    let solved = program.solve(sheet, BUDGET, &mut work, &mut out);
-    let answer = line(&solved, &out);
-    let each = seconds(|| {
-        program.solve(sheet, BUDGET, &mut work, &mut out);
-    });
-    let rate = solved.trials as f64 / each;
-    println!("  solve: {answer}: {} trials, {each:.6} s, {rate:.0} trials/s", solved.trials);
-}
-
-/// Each row of the sheet in turn is the root; the word is one letter throughout.
-fn bench_list(program: &dyn Program, bytes: &[u8]) {
-    let Ok(sheet) = Sheet::check(bytes) else {
-        return;
+/// Instructions of one call: this program under valgrind with the call made once, less the same
+/// without it.
+fn instructions(task: &Path, program: &str) -> Option<u64> {
+    let run = |times: &str| {
+        let output = Command::new("valgrind")
+            .args(["--tool=callgrind", "--callgrind-out-file=/dev/null"])
+            .arg(env::current_exe().ok()?)
+            .args(["call", program])
+            .arg(task)
+            .arg(times)
+            .output()
+            .ok()?;
+        let said = String::from_utf8_lossy(&output.stderr).into_owned();
+        let (_, count) = said.split_once("Collected :")?;
+        count.split_whitespace().next()?.parse::<u64>().ok()
     };
-    let rows = sheet.rows.len() as u64;
-    let size = |n: u64| Plan::check(bytes, 0, n).map_or(usize::MAX, |plan| plan.size());
-    let Some(n) = (0..=sheet.longest as u64).rev().find(|&n| size(n) <= LONGEST_LIST) else {
-        return;
-    };
-    let mut list = vec![0; size(n)];
-    let mut row = 0;
-    let make = seconds(|| {
-        program.make(bytes, row % rows, n, &mut list);
-        row += 1;
-    });
-    let word = vec![sheet.letters[0]; n as usize];
-    let mut work = vec![0; WORK];
-    let gate = seconds(|| {
-        program.gate(&list, &sheet.text, &word, &mut work);
-    });
-    println!("  make: n {n}, {rows} rows, {} bytes, {make:.6} s", list.len());
-    println!("  gate: the same list, {gate:.6} s, {:.0} words/s", 1.0 / gate);
+    run("1")?.checked_sub(run("0")?)
 }

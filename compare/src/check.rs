@@ -2,10 +2,11 @@
 
 use std::time::{Duration, Instant};
 
-use crate::alike;
+use crate::alike::{self, Passed};
 use crate::compare::{Comparison, Difference, GateCall, MakeCall, SolveCall};
 use crate::gate::CutList;
 use crate::gen;
+use crate::gen::damage::with_byte_changed;
 use crate::gen::lists;
 use crate::make::Plan;
 use crate::program::Program;
@@ -223,7 +224,7 @@ impl Case<'_, '_> {
         let tries = if every { list.len() } else { 6 };
         for i in 0..tries {
             let at = if every { i } else { self.s.below(list.len()) };
-            let damaged = lists::with_byte_changed(&mut self.s, list, at);
+            let damaged = with_byte_changed(&mut self.s, list, at);
             let work = self.s.pick(&[WORK, WORK, WORK + 1, WORK - 1]);
             self.comparison.gate(GateCall { list: &damaged, text, word, work })?;
         }
@@ -251,12 +252,23 @@ impl Case<'_, '_> {
         if let Ok(count) = u64::try_from(counted.trials) {
             budgets.extend([count - 1, count, count.saturating_add(1)]);
         }
+        if !counted.passed.is_empty() {
+            for _ in 0..3 {
+                budgets.extend(budgets_inside(self.s.pick(&counted.passed)));
+            }
+        }
         for budget in budgets {
             let (work, out) = (WORK, sheet.longest);
             self.comparison.solve(&bytes, SolveCall { budget, work, out }, answer)?;
         }
         Ok(())
     }
+}
+
+/// Budgets that are spent before, within and after the prefixes passed over.
+fn budgets_inside(Passed { before, trials }: Passed) -> impl Iterator<Item = u64> {
+    let within = [0, 1, trials / 2, trials.saturating_sub(1), trials];
+    within.into_iter().filter_map(move |more| u64::try_from(before.saturating_add(more)).ok())
 }
 
 /// How many trials of the sheet are cheap enough to be walked a dozen times by both programs.

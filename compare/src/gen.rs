@@ -13,6 +13,9 @@ use crate::seed::Seeded;
 /// The sheets of one case, and the sort they are of. Sheets that are mostly refused at once come in
 /// numbers, as there are many ways to be refused.
 pub fn sheets(s: &mut Seeded) -> (&'static str, Vec<Vec<u8>>) {
+    if s.once_in(60) {
+        return ("each byte", damage::each_byte(s));
+    }
     match s.below(20) {
         0..=3 => ("small", vec![small::small(s, 2).bytes()]),
         4..=8 => ("filters", vec![filters::filters(s, 7).bytes()]),

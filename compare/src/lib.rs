@@ -7,6 +7,7 @@ pub mod check;
 pub mod compare;
 pub mod derive;
 pub mod draft;
+pub mod everyday;
 #[cfg(feature = "proved")]
 pub mod ffi;
 pub mod gate;

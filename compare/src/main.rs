@@ -6,7 +6,7 @@ use std::io::{self, Read};
 use std::path::Path;
 use std::process::ExitCode;
 
-use compare::bench;
+use compare::bench::{self, Contender, Task};
 use compare::check::{self, Report};
 use compare::compare::Difference;
 use compare::keys::{keys, BUDGET};
@@ -20,7 +20,8 @@ const USAGE: &str =
 compare alike SEED COUNT             the same on counts past every plain walk
 compare self SEED COUNT              the second program against brute force
 compare solve                        one line for the sheet on standard input
-compare bench FOLDER                 times for each *.sheet of the folder
+compare bench FOLDER                 seconds and instructions: sheets of the folder, maker, gate
+compare call PROGRAM TASK TIMES      calls proved or second: SHEET, make or gate, as bench does
 compare write-keys FOLDER            the sheets of the keys, k1.sheet to k11.sheet";
 
 fn main() -> ExitCode {
@@ -33,6 +34,7 @@ fn main() -> ExitCode {
         ["self", seed, count] => run_self(seed, count),
         ["solve"] => run_solve(),
         ["bench", folder] => run_bench(folder),
+        ["call", program, task, times] => run_calls(program, task, times),
         ["write-keys", folder] => write_keys(folder),
         _ => Err(USAGE.to_string()),
     };
@@ -95,11 +97,26 @@ fn run_solve() -> Result<(), String> {
     Ok(())
 }
 
+/// The proved program passes over alike letters and takes any budget; the second one walks each.
+fn contenders() -> Vec<Contender> {
+    let proved = proved().map(|program| Contender { name: "proved", program, budget: u64::MAX });
+    let second = Contender { name: "second", program: &Second, budget: 50_000 };
+    proved.into_iter().chain([second]).collect()
+}
+
 fn run_bench(folder: &str) -> Result<(), String> {
-    let mut programs: Vec<(&str, &dyn Program)> = Vec::new();
-    programs.extend(proved().map(|program| ("proved", program)));
-    programs.push(("second", &Second));
-    bench::bench(Path::new(folder), &programs).map_err(|error| error.to_string())
+    bench::bench(Path::new(folder), &contenders()).map_err(|error| error.to_string())
+}
+
+fn run_calls(program: &str, task: &str, times: &str) -> Result<(), String> {
+    let contenders = contenders();
+    let contender = contenders.iter().find(|contender| contender.name == program);
+    let contender = contender.ok_or_else(|| format!("no such program: {program}"))?;
+    let mut task = Task::new(task).map_err(|error| error.to_string())?;
+    for _ in 0..number(times)? {
+        task.call(contender);
+    }
+    Ok(())
 }
 
 fn write_keys(folder: &str) -> Result<(), String> {

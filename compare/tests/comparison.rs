@@ -1,11 +1,13 @@
 //! The second program against brute force, and the comparison itself: it must pass a program that
 //! answers the same and see each way of differing.
 
-use compare::check::check;
+use compare::alike;
+use compare::check::{check, check_alike};
 use compare::make::Made;
 use compare::program::{Program, Second};
 use compare::selfcheck::selfcheck;
-use compare::solve::{Solved, WORK};
+use compare::sheet::Sheet;
+use compare::solve::{solve_by, Solved, Walked, WORK};
 
 #[test]
 fn second_program_agrees_with_brute_force() {
@@ -89,4 +91,33 @@ fn every_way_of_differing_is_seen() {
     for (i, wrong) in wrongs.iter().enumerate() {
         assert!(check(wrong, 7, 60, None).is_err(), "wrong program {i}");
     }
+}
+
+/// Counts alike letters together, and so many trials of every count too few.
+struct Counting(u64);
+
+impl Program for Counting {
+    fn solve(&self, sheet: &[u8], budget: u64, work: &mut [u64], out: &mut [u8]) -> Solved {
+        let walk = |sheet: &Sheet, budget: u64| {
+            let counted = alike::count(sheet, 2_000)?;
+            let trials = u64::try_from(counted.trials).ok()?.saturating_sub(self.0);
+            (trials <= budget).then_some(Walked { trials, found: counted.found })
+        };
+        solve_by(walk, sheet, budget, work, out)
+    }
+
+    fn make(&self, sheet: &[u8], row: u64, length: u64, list: &mut [u8]) -> Made {
+        Second.make(sheet, row, length, list)
+    }
+
+    fn gate(&self, list: &[u8], text: &[u8], word: &[u8], work: &mut [u64]) -> u32 {
+        Second.gate(list, text, word, work)
+    }
+}
+
+#[test]
+fn counts_past_every_plain_walk() {
+    let report = check_alike(&Counting(0), 7, 60).expect("no difference");
+    assert!(report.tally.answered("solve", 0) > 20 && report.tally.answered("solve", 2) > 20);
+    assert!(check_alike(&Counting(1), 7, 60).is_err());
 }

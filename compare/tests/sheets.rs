@@ -4,6 +4,8 @@ use std::fs;
 use std::path::PathBuf;
 
 use compare::alike;
+use compare::everyday;
+use compare::gate::gate;
 use compare::keys::{keys, BUDGET};
 use compare::program::line;
 use compare::sheet::{read_u16, Sheet, TABLES};
@@ -46,6 +48,16 @@ fn ten_digits() {
         let counted = alike::count(&sheet, 2_000).expect("a count in reach");
         assert_eq!((counted.trials, counted.found), (41_111_111_232, None), "{name}");
     }
+}
+
+/// The filter that maker and gate are measured on.
+#[test]
+fn everyday_filter() {
+    let (draft, _) = everyday::filter();
+    assert_eq!(draft.rows.len(), 32);
+    let says = |word: &[u8]| gate(&everyday::list(), &draft.text, word, &mut [0; WORK]);
+    assert_eq!(says(everyday::KEY), 0);
+    assert_eq!(says(b"LDN_AB12-C3D4-E5F6-7"), 1);
 }
 
 /// The question asked the other way: the same sheet with every sign turned.

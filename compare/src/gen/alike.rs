@@ -11,6 +11,7 @@ const LETTERS: &[&[(u8, u8)]] = &[
     &[(b'a', b'p')],
     &[(b'a', b'd'), (b'c', b'f'), (b'f', b'f')],
     &[(250, 255), (0, 5)],
+    &[(b'A', b'Z'), (b'a', b'z')],
 ];
 
 /// A sheet whose whole walk can be tried.
@@ -41,11 +42,12 @@ fn draft(s: &mut Seeded, letters: &[(u8, u8)], most: usize) -> Draft {
     };
     draft.add_part(2, 0, 0);
     for _ in 0..s.between(1, 2) {
-        match s.below(5) {
+        match s.below(6) {
             0 => told_by_range(s, &mut draft),
             1 => told_by_byte(s, &mut draft),
             2 => told_by_v(s, &mut draft),
             3 => told_by_nothing(s, &mut draft),
+            4 => told_by_case(s, &mut draft),
             _ => told_by_unused(s, &mut draft),
         }
     }
@@ -119,6 +121,22 @@ fn told_by_v(s: &mut Seeded, draft: &mut Draft) {
         let one = draft.add_part(3, s.below(longest + 1) as u16, 1);
         let other = draft.add_part(3, s.below(longest + 1) as u16, 1);
         draft.assert((3, sign), (one, 1), (other, 1));
+    }
+}
+
+/// A letter and the same in the other case, which are two bytes as any others are; whole rows of
+/// one case too.
+fn told_by_case(s: &mut Seeded, draft: &mut Draft) {
+    let upper = s.between(b'A' as usize, b'Z' as usize) as u8;
+    let byte = s.pick(&[upper, upper.to_ascii_lowercase()]);
+    if s.once_in(2) {
+        let (low, high) = if byte == upper { (b'A', b'Z') } else { (b'a', b'z') };
+        let range = draft.add_row(2, low as u16, high as u16);
+        let star = draft.add_row(6, range, 0);
+        draft.assert((1, s.below(2) as u8), (0, 1), (star, 0));
+    } else {
+        let text = draft.add_text(&[byte]);
+        draft.assert((2, s.below(2) as u8), (0, 1), text);
     }
 }
 

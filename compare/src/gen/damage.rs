@@ -27,6 +27,24 @@ pub fn damaged(s: &mut Seeded) -> Vec<u8> {
     bytes
 }
 
+/// A small sheet with each of its bytes changed in turn.
+pub fn each_byte(s: &mut Seeded) -> Vec<Vec<u8>> {
+    let sheet = small(s, 1).bytes();
+    (0..sheet.len()).map(|at| with_byte_changed(s, &sheet, at)).collect()
+}
+
+/// The bytes with one of them changed.
+pub fn with_byte_changed(s: &mut Seeded, bytes: &[u8], at: usize) -> Vec<u8> {
+    let mut bytes = bytes.to_vec();
+    bytes[at] = match s.below(4) {
+        0 => bytes[at].wrapping_add(1),
+        1 => bytes[at].wrapping_sub(1),
+        2 => bytes[at] ^ 0x80,
+        _ => bytes[at] ^ s.between(1, 255) as u8,
+    };
+    bytes
+}
+
 /// Bytes of no sheet, most of them with a mark and a total that pass.
 pub fn random_bytes(s: &mut Seeded) -> Vec<u8> {
     let length =

@@ -119,18 +119,6 @@ fn read_off(
     }
 }
 
-/// The list with one byte changed.
-pub fn with_byte_changed(s: &mut Seeded, list: &[u8], at: usize) -> Vec<u8> {
-    let mut list = list.to_vec();
-    list[at] = match s.below(4) {
-        0 => list[at].wrapping_add(1),
-        1 => list[at].wrapping_sub(1),
-        2 => list[at] ^ 0x80,
-        _ => list[at] ^ s.between(1, 255) as u8,
-    };
-    list
-}
-
 /// The list cut, grown, or with a field of its trailer changed.
 pub fn damaged(s: &mut Seeded, list: &[u8]) -> Vec<u8> {
     let mut list = list.to_vec();
