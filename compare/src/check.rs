@@ -17,6 +17,8 @@ use crate::tally::Tally;
 
 /// A list longer than this is asked for only with too little space.
 const WRITTEN_LIST: usize = 1 << 20;
+/// Now and then a list up to this length is written, and a word put to it.
+const LONG_LIST: usize = 1 << 24;
 /// A list up to this length has every byte changed in turn.
 const SMALL_LIST: usize = 400;
 
@@ -140,7 +142,29 @@ impl Case<'_, '_> {
                 self.gates(&list, &sheet.text)?;
             }
         }
+        if rows > 100 && self.s.once_in(10) {
+            self.long_list(bytes, sheet, row)?;
+        }
         Ok(())
+    }
+
+    /// The longest list that is to be written, one byte short of its space and with room for it.
+    fn long_list(&mut self, bytes: &[u8], sheet: &Sheet, row: u64) -> Result<(), Difference> {
+        let size = |length| Plan::check(bytes, row, length).map_or(usize::MAX, |plan| plan.size());
+        let mut lengths = (0..=LENGTH_LIMIT as u64).rev();
+        let Some(length) = lengths.find(|&length| size(length) <= LONG_LIST) else {
+            return Ok(());
+        };
+        let space = size(length);
+        self.comparison.make(bytes, MakeCall { row, length, space: space - 1 })?;
+        let Some(bytes) = self.comparison.make(bytes, MakeCall { row, length, space })? else {
+            return Ok(());
+        };
+        let list = CutList::check(&bytes, sheet.text.len()).expect("a maker's list");
+        let word = lists::likely_word(&mut self.s, &list, &sheet.text);
+        let call = GateCall { list: &bytes, text: &sheet.text, word: &word, work: WORK };
+        self.comparison.tally.sort("long list");
+        self.comparison.gate(call)
     }
 
     /// The maker with every interesting space; the list, if it is of a length to be written.
