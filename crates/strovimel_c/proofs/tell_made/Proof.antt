@@ -1,6 +1,3 @@
-use mathlib.Core.Path.{sym, subst}
-use native.Mathlib.Omega.{arith}
-use Rattle.maker.specs.Promise.{reportOf}
 use borrow.Author.Needs.{needs}
 use Rattle.strovimel_c.proofs.tell_made.Statement.{statement}
 use Rattle.strovimel_c.proofs.tell_made.Tie as tie
