@@ -10,7 +10,7 @@ ghost use Rattle.paper.specs.Sheet.{sheetOf};
 ghost use Rattle.paper.specs.Opens.{opens};
 ghost use Rattle.paper.specs.Walk.{walk as «walk-of»};
 ghost use Rattle.paper.specs.Answers.{under};
-ghost use Rattle.walk.specs.Letters.{hasLetter};
+ghost use Rattle.state.specs.Letters.{hasLetter};
 ghost use Rattle.walk.specs.Counts.{Small};
 ghost use Rattle.walk.specs.Progress.{Classes};
 ghost use Rattle.groundwork.specs.Ground.{Ground};
@@ -20,14 +20,14 @@ ghost use Rattle.search.specs.Tells.{Tells};
 // How a search ended: the number 0, 1 or 2, the word, the trials.
 pub struct Sought {
     pub number: u8,
-    pub prefix: walk::Prefix,
+    pub prefix: state::Prefix,
     pub trials: u64,
 }
 
 pub fn spent(budget: u64) -> Sought
     ensures { λ r. ⌜ (r .number ≡ 2) × (r .prefix .len ≡ 0) × (r .trials ≡ budget) ⌝ }
 {
-    let prefix = walk::Prefix::empty();
+    let prefix = state::Prefix::empty();
     Sought {
         number: 2,
         prefix,
@@ -38,7 +38,7 @@ pub fn spent(budget: u64) -> Sought
 pub fn none(trials: u64) -> Sought
     ensures { λ r. ⌜ (r .number ≡ 1) × (r .prefix .len ≡ 0) × (r .trials ≡ trials) ⌝ }
 {
-    let prefix = walk::Prefix::empty();
+    let prefix = state::Prefix::empty();
     Sought {
         number: 1,
         prefix,
@@ -56,7 +56,7 @@ fn judged(s: &[u8], bytes: &[u8], len: usize, n: usize, lay: &[u64], work: &mut 
 
 pub fn seek(
     s: &[u8],
-    letters: walk::Letters,
+    letters: state::Letters,
     slot: &[u8; 256],
     lo: usize,
     hi: usize,
@@ -69,7 +69,7 @@ pub fn seek(
 {
     let mut counts = [0u64; 480];
     let mut n = lo;
-    let mut q = walk::State::start();
+    let mut q = state::State::start();
     while q.trials < budget {
         let p = q.prefix;
         let bytes = p.bytes;

@@ -30,7 +30,7 @@ pub enum Solved {
 }
 
 // The word at the start of the output.
-fn put_word(p: walk::Prefix, out: &mut [u8])
+fn put_word(p: state::Prefix, out: &mut [u8])
     requires { ⌜ (p .len ≤ 60) × (p .len ≤ length (now out)) ⌝ }
     ensures { λ _. ⌜ now (out .exit) ≡ written (take (p .len) (p .bytes)) (now (out .entry)) ⌝ }
 {

@@ -10,7 +10,7 @@ use lib.ListN.{take, getD}
 use Rattle.paper.specs.Walk.{Walked, found, none, plus, then, count, upTo, every, tree, walk}
 use Rattle.paper.specs.Answers.{Found, None, Spent, whole, under}
 use Rattle.paper.proofs.Budget.{count-tree, under-above, under-within}
-use Rattle.walk.specs.declared.State.{State}
+use Rattle.state.specs.declared.State.{State}
 use Rattle.walk.specs.Progress.{At, Done, Knows, Judging, Landed, Over}
 use Rattle.walk.proofs.Runs.{plus-zero, plus-plus, count-plus, count-then, upTo-end, upTo-take, tree-word}
 use Rattle.walk.proofs.Steps.{whole-found, whole-count}

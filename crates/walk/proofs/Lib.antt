@@ -1,4 +1,3 @@
-pub mod Ranges
 pub mod Counts
 pub mod Runs
 pub mod Alike

@@ -1,5 +1,3 @@
-pub mod Letters
-pub mod State
 pub mod Counts
 pub mod Progress
 pub mod Posts

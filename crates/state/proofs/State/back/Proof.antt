@@ -1,7 +1,7 @@
 -- `State::back` meets its contract: the prefix goes back.
 use borrow.Author.Needs.{needs}
-use Rattle.walk.proofs.State.back.Statement.{statement}
-use Rattle.walk.proofs.State.back.Tie as tie
+use Rattle.state.proofs.State.back.Statement.{statement}
+use Rattle.state.proofs.State.back.Tie as tie
 
 back-requires : tie.Need-back-requires
 back-requires c κs = search needs

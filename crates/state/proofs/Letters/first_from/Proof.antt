@@ -4,9 +4,9 @@ use Prim.Native.Nat.{ℕ, _≤_, _<_, _-_}
 use mathlib.Core.Bool.{false}
 use native.Mathlib.Omega.{arith}
 use borrow.Author.Count.{below-more}
-use Rattle.walk.specs.Letters.{hasLetter}
-use Rattle.walk.proofs.Letters.first_from.Statement.{statement}
-use Rattle.walk.proofs.Letters.first_from.Tie as tie
+use Rattle.state.specs.Letters.{hasLetter}
+use Rattle.state.proofs.Letters.first_from.Statement.{statement}
+use Rattle.state.proofs.Letters.first_from.Tie as tie
 
 abbrev Inv-loop : tie.InvT-loop
 Inv-loop self c at₀ at = (c ≤ at) × (at ≤ 256) × ((x : ℕ) → x < at → c ≤ x → hasLetter (self .of) x ≡ false)

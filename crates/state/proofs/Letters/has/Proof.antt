@@ -1,8 +1,8 @@
 -- `Letters::has` meets its contract.
-use Rattle.walk.specs.Letters.{hasLetter}
+use Rattle.state.specs.Letters.{hasLetter}
 use borrow.Author.Needs.{needs}
-use Rattle.walk.proofs.Letters.has.Statement.{statement}
-use Rattle.walk.proofs.Letters.has.Tie as tie
+use Rattle.state.proofs.Letters.has.Statement.{statement}
+use Rattle.state.proofs.Letters.has.Tie as tie
 
 wide-requires : tie.Need-wide-requires
 wide-requires c κs = search needs

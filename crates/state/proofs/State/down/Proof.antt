@@ -1,7 +1,7 @@
 -- `State::down` meets its contract: the prefix goes down.
 use borrow.Author.Needs.{needs}
-use Rattle.walk.proofs.State.down.Statement.{statement}
-use Rattle.walk.proofs.State.down.Tie as tie
+use Rattle.state.proofs.State.down.Statement.{statement}
+use Rattle.state.proofs.State.down.Tie as tie
 
 add-at : tie.Need-add-at
 add-at c = search needs

@@ -4,9 +4,9 @@ use Prim.Native.Nat.{_≤_, _<_, _-_}
 use native.Mathlib.Omega.{arith}
 use borrow.Author.Needs.{needs}
 use lib.ListN.{length, length-set}
-use Rattle.walk.proofs.Ranges.{JoinedTo, joined-start, joined-more, joined-end}
-use Rattle.walk.proofs.Letters.with.Statement.{statement}
-use Rattle.walk.proofs.Letters.with.Tie as tie
+use Rattle.state.proofs.Ranges.{JoinedTo, joined-start, joined-more, joined-end}
+use Rattle.state.proofs.Letters.with.Statement.{statement}
+use Rattle.state.proofs.Letters.with.Tie as tie
 
 abbrev Inv-loop : tie.InvT-loop
 Inv-loop low high self₀ end b₀ self b = (low ≤ b) × (end ≡ high) × (end < 256) × (length (self .of) ≡ 256) × JoinedTo (self₀ .of) low high b (self .of)

@@ -2,8 +2,8 @@
 use Prim.Native.Nat.{ℕ, _+_, _-_, _≤_}
 use mathlib.Core.Bool.{true}
 use lib.ListN.{set, getD}
-use Rattle.walk.specs.declared.Prefix.{Prefix}
-use Rattle.walk.specs.declared.State.{State}
+use Rattle.state.specs.declared.Prefix.{Prefix}
+use Rattle.state.specs.declared.State.{State}
 
 -- one letter more
 abbrev pub longer : Prefix → ℕ → Prefix

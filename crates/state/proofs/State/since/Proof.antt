@@ -1,8 +1,8 @@
 -- `State::since` meets its contract: no prefix was begun after the trials made.
 use native.Mathlib.Omega.{arith}
 use borrow.Author.Needs.{needs}
-use Rattle.walk.proofs.State.since.Statement.{statement}
-use Rattle.walk.proofs.State.since.Tie as tie
+use Rattle.state.proofs.State.since.Statement.{statement}
+use Rattle.state.proofs.State.since.Tie as tie
 
 mul-result : tie.Need-mul-result
 mul-result c = search needs

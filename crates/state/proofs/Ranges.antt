@@ -9,7 +9,7 @@ use borrow.Author.Tests.{lt-ltb, le-ltb, le-leb, lt-leb}
 use lib.Dec.{leb, ltb}
 use lib.ListN.{length, set}
 use lib.Seq.{getD-set-same, getD-set-other}
-use Rattle.walk.specs.Letters.{hasLetter, Joined}
+use Rattle.state.specs.Letters.{hasLetter, Joined}
 
 module _ (of : List ℕ) (low high : ℕ) where
   -- the letters from low up to b are joined, b not among them

@@ -6,9 +6,9 @@ use native.Mathlib.Omega.{arith}
 use native.Mathlib.Decide.{decLt}
 use lib.Dec.{eqb}
 use lib.ListN.{getD, replicate, getD-replicate, List·getD-eq-default}
-use Rattle.walk.specs.Letters.{hasLetter}
-use Rattle.walk.proofs.Letters.none.Statement.{statement}
-use Rattle.walk.proofs.Letters.none.Tie as tie
+use Rattle.state.specs.Letters.{hasLetter}
+use Rattle.state.proofs.Letters.none.Statement.{statement}
+use Rattle.state.proofs.Letters.none.Tie as tie
 
 returns : tie.Need-returns
 unfolding hasLetter

@@ -1,7 +1,7 @@
 -- `State::next` meets its contract: the prefix has another last letter.
 use borrow.Author.Needs.{needs}
-use Rattle.walk.proofs.State.next.Statement.{statement}
-use Rattle.walk.proofs.State.next.Tie as tie
+use Rattle.state.proofs.State.next.Statement.{statement}
+use Rattle.state.proofs.State.next.Tie as tie
 
 next-requires : tie.Need-next-requires
 next-requires c κs = search needs
