@@ -1,6 +1,3 @@
-pub mod Each
-pub mod OptionLaws
-pub mod ListLaws
-pub mod Formed
+pub mod Holding
 pub mod Stages
 pub mod Coincide

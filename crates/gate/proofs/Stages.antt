@@ -24,7 +24,7 @@ use Rattle.table.specs.Spans.{spanAt}
 use Rattle.table.specs.Bits.{bitAt, setBit}
 use Rattle.table.proofs.Spans.{lt-or-le, span-lt, span-inj}
 use Rattle.table.proofs.Bits.{length-set-bit, set-bit-same, set-bit-other, set-bit-apart, drop-set-bit, zeroed-bit, length-zeroed, drop-zeroed, zeroed-same}
-use Rattle.gate.proofs.Formed.{option-obeys}
+use Rattle.list.proofs.Formed.{option-obeys}
 use Rattle.gate.specs.Marks.{inTable, inTurn, markStart, markOption, markAt, markHead, markGroup, marked}
 
 -- ---- in turn

@@ -1,4 +1,4 @@
-pub mod Read
+pub mod Readable
 pub mod Marks
 pub mod Number
 pub mod Promise

@@ -1,12 +1,9 @@
 // The gate: reads any well-formed cut list and says whether the list accepts a word. It knows nothing of sheets or solving.
 pub mod answer;
-mod fields;
-mod list;
 mod marks;
 
 pub use answer::Gate;
 pub use answer::number;
-pub use list::well_formed;
 ghost use mathlib.Core.Path.{_≡_};
 ghost use lib.ListN.{length};
 ghost use Rattle.paper.specs.Answers.{gateSays, gateLeaves};
@@ -20,7 +17,7 @@ pub fn gate(list: &[u8], text: &[u8], word: &[u8], work: &mut [u64]) -> Gate
     if !list::well_formed(list, text.len()) {
         return Gate::Malformed;
     }
-    let n = fields::trailer_of(list).n;
+    let n = list::fields::trailer_of(list).n;
     if word.len() != n {
         return Gate::Length;
     }

@@ -1,6 +1,6 @@
 // The reading: a bit of the workspace for each row and each part of the word that it accepts, the shorter lengths first.
-use crate::fields;
-use crate::fields::Choice;
+use list::fields;
+use list::fields::Choice;
 ghost use mathlib.Core.Path.{_≡_};
 ghost use Prim.Native.Nat.{_+_, _≤_, _<_};
 ghost use lib.ListN.{length};
@@ -8,7 +8,8 @@ ghost use Rattle.paper.specs.Decide.{exactly, fits};
 ghost use Rattle.paper.specs.Gate.{nOf, rowsOf, groupAt, headAt, headEnd, «holds», reading};
 ghost use Rattle.paper.specs.Answers.{words, zeroed};
 ghost use Rattle.paper.proofs.Obeys.{Obeys};
-ghost use Rattle.gate.specs.Read.{Readable, optionOf};
+ghost use Rattle.list.specs.Read.{optionOf};
+ghost use Rattle.gate.specs.Readable.{Readable};
 ghost use Rattle.gate.specs.Marks.{inTable, markStart, markOption, markHead, markGroup, marked};
 
 // Whether the part of the text stands in the word from place i on.

@@ -3,7 +3,7 @@ use mathlib.Core.Path.{_≡_, refl, sym, _∙_}
 use mathlib.Core.Bool.{true}
 use lib.ListN.{length}
 use borrow.Author.Tests.{eq-eqb, ne-eqb, le-leb, lt-leb, not-true, not-false}
-use Rattle.gate.proofs.Formed.{right-trailer}
+use Rattle.list.proofs.Formed.{right-trailer}
 use Rattle.paper.specs.Gate.{nOf, wellFormed}
 use Rattle.paper.specs.Answers.{words, gateSays, gateLeaves}
 use borrow.Author.Needs.{needs}

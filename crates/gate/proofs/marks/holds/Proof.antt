@@ -3,9 +3,9 @@ use native.Mathlib.Omega.{arith}
 use native.Mathlib.Nat.{add-sub-cancel-left}
 use mathlib.Core.Path.{subst}
 use borrow.Author.Tests.{le-leb, lt-leb}
-use Rattle.gate.proofs.OptionLaws.{holds-byte, holds-stretch, holds-split, holds-nil}
+use Rattle.gate.proofs.Holding.{holds-byte, holds-stretch, holds-split, holds-nil}
 use Rattle.gate.specs.Marks.{inTable}
-use Rattle.gate.specs.Read.{optionOf}
+use Rattle.list.specs.Read.{optionOf}
 use Rattle.paper.proofs.Obeys.{Obeys}
 use Rattle.paper.specs.Cuts.{Byte, Stretch, Split}
 use borrow.Author.Needs.{needs}

@@ -4,7 +4,7 @@ use native.Mathlib.Omega.{arith}
 use mathlib.Core.Path.{_≡_, refl, sym, ap, _∙_}
 use Prim.Native.Nat.{_-_, _≤_}
 use Rattle.gate.proofs.Stages.{turn-none, turn-more}
-use Rattle.gate.proofs.ListLaws.{head-first, head-next}
+use Rattle.list.proofs.ListLaws.{head-first, head-next}
 use Rattle.gate.specs.Marks.{inTurn, markHead, markGroup}
 use Rattle.paper.specs.Gate.{headEnd, headAt}
 use Rattle.gate.proofs.marks.mark_group.Statement.{statement}

@@ -4,8 +4,8 @@ use native.Mathlib.Omega.{arith}
 use mathlib.Core.Path.{_≡_, refl, sym, ap, _∙_}
 use Prim.Native.Nat.{_+_, _-_, _≤_}
 use Rattle.gate.proofs.Stages.{turn-none, turn-more}
-use Rattle.gate.proofs.Formed.{begins}
-use Rattle.gate.proofs.ListLaws.{group-none, group-next}
+use Rattle.list.proofs.Formed.{begins}
+use Rattle.list.proofs.ListLaws.{group-none, group-next}
 use Rattle.gate.specs.Marks.{inTurn, markGroup, marked}
 use Rattle.paper.specs.Gate.{headAt, groupBegin}
 use Rattle.gate.proofs.marks.mark_groups.Statement.{statement}

@@ -5,9 +5,9 @@ use mathlib.Core.Path.{_≡_, refl, sym, ap, _∙_, subst}
 use Prim.Native.Nat.{_-_, _≤_, _<_}
 use Rattle.paper.proofs.WellFormed.{formed}
 use Rattle.gate.proofs.Stages.{turn-none, turn-more, mark-at, mark-head}
-use Rattle.gate.proofs.Formed.{head-inside, option-inside}
+use Rattle.list.proofs.Formed.{head-inside, option-inside}
 use Rattle.gate.specs.Marks.{inTurn, markAt, markOption}
-use Rattle.gate.specs.Read.{optionOf}
+use Rattle.list.specs.Read.{optionOf}
 use Rattle.paper.proofs.Obeys.{Obeys}
 use Rattle.paper.specs.Gate.{headEnd, optionCount}
 use Rattle.gate.proofs.marks.mark_head.Statement.{statement}

@@ -5,7 +5,7 @@ use mathlib.Core.Path.{_≡_, refl, sym, ap, _∙_}
 use Prim.Native.Nat.{_+_, _-_, _≤_}
 use Rattle.gate.proofs.Stages.{turn-none, turn-more}
 use Rattle.gate.specs.Marks.{inTurn, markStart, markOption}
-use Rattle.gate.specs.Read.{optionOf}
+use Rattle.list.specs.Read.{optionOf}
 use Rattle.gate.proofs.marks.mark_option.Statement.{statement}
 use Rattle.gate.proofs.marks.mark_option.Tie as tie
 

@@ -2,7 +2,7 @@ use native.Mathlib.Omega.{arith}
 use mathlib.Core.Path.{ap, _∙_}
 use Rattle.paper.proofs.WellFormed.{formed}
 use Rattle.gate.proofs.Stages.{marked-reads, marked-zeroed}
-use Rattle.gate.proofs.Formed.{right-trailer}
+use Rattle.list.proofs.Formed.{right-trailer}
 use Rattle.gate.specs.Marks.{marked}
 use borrow.Author.Needs.{needs}
 use Rattle.gate.proofs.marks.read.Statement.{statement}

@@ -3,7 +3,7 @@ use native.Mathlib.Omega.{arith}
 use mathlib.Core.Path.{_≡_, sym}
 use Prim.Native.Nat.{ℕ, _+_, _-_, _≤_, _<_}
 use borrow.Author.Count.{below-more}
-use Rattle.gate.proofs.OptionLaws.{stands-yes, stands-no}
+use Rattle.gate.proofs.Holding.{stands-yes, stands-no}
 use Rattle.gate.proofs.marks.stands.Statement.{statement}
 use Rattle.gate.proofs.marks.stands.Tie as tie
 
