@@ -1,7 +1,7 @@
 -- What the maker says and leaves: each refusal, and the list written.
 -- Assumes nothing.
 use Prim.Native.Nat.{ℕ, zero, suc, _+_, _*_, _≤_, _<_}
-use mathlib.Core.Path.{_≡_, refl, sym, ap}
+use mathlib.Core.Path.{_≡_, refl, sym, ap, _∙_}
 use mathlib.Core.List.{List, _++_}
 use native.Mathlib.Omega.{arith}
 use native.Mathlib.Numerals.{add-one}
@@ -15,17 +15,23 @@ use Rattle.paper.specs.Rows.{Grammar}
 use Rattle.paper.specs.Sheet.{grammarOf}
 use Rattle.paper.specs.Cuts.{groups, listTrailer, cutList}
 use Rattle.paper.specs.Answers.{written, makerRefusal, makerSays, spaceAfter}
-use Rattle.paper.proofs.Encoding.{length-list}
+use Rattle.paper.proofs.Gathered.{gather-length}
+use Rattle.paper.proofs.Encoding.{length-u32, length-list}
 use Rattle.sheet.specs.declared.Trailer.{Trailer}
 use Rattle.sheet.specs.Readers.{trailerOf}
 use Rattle.sheet.proofs.Good.{good}
+use Rattle.options.specs.Prepared.{Offsets, JobOf}
+use Rattle.groups.specs.Parts.{Put, mark}
+use Rattle.groups.proofs.Stores.{put-more, put-same, put-written}
 use Rattle.maker.specs.declared.Made.the-variants.{Written, Refused}
-use Rattle.maker.specs.Parts.{Put, offsetBytes, mark, endingBytes, trailerBytes}
-use Rattle.maker.specs.Prepared.{Offsets, JobOf}
+use Rattle.maker.specs.Trailer.{offsetBytes, endingBytes, trailerBytes}
 use Rattle.maker.specs.Promise.{Promise}
-use Rattle.maker.proofs.Stores.{put-more, put-same, put-written}
 
 -- ---- the trailer, and the whole list
+
+pub offsets-size : (offsets : List ℕ) (m : ℕ) → length (gather 0 m (offsetBytes offsets)) ≡ 4 * m
+unfolding offsetBytes
+offsets-size offsets m = gather-length 4 0 m (offsetBytes offsets) (λ k. length-u32 _) ∙ omega arith
 
 gather-same : (f h : ℕ → List ℕ) (i n : ℕ) → ((k : ℕ) → k < i + n → f k ≡ h k) → gather i n f ≡ gather i n h
 unfolding gather

@@ -1,9 +1,2 @@
-pub mod Stores
-pub mod Options
-pub mod ByKind
-pub mod Writing
-pub mod Picking
-pub mod Turns
-pub mod Entries
 pub mod Answers
 pub mod Coincide

@@ -1,3 +1,2 @@
-pub mod Parts
-pub mod Prepared
+pub mod Trailer
 pub mod Promise

@@ -1,24 +1,17 @@
 // The maker of cut lists.
-mod bytes;
-mod groups;
-mod ready;
-mod sizes;
-
 ghost use mathlib.Core.Path.{_≡_};
 ghost use Prim.Native.Nat.{_+_, _*_, _≤_, _<_};
 ghost use lib.ListN.{length};
 ghost use Rattle.paper.specs.Tests.{gather};
 ghost use Rattle.paper.specs.Answers.{makerSays, spaceAfter};
-ghost use Rattle.maker.specs.Parts.{Put, offsetBytes, endingBytes, trailerBytes};
-ghost use Rattle.maker.specs.Prepared.{JobOf};
+ghost use Rattle.options.specs.Prepared.{JobOf};
+ghost use Rattle.groups.specs.Parts.{Put};
+ghost use Rattle.maker.specs.Trailer.{offsetBytes, endingBytes, trailerBytes};
 ghost use Rattle.maker.specs.Promise.{reportOf};
-
-// Where the rows of an accepted sheet begin, how many there are, and the list's length.
-pub struct Job {
-    pub at: usize,
-    pub rows: usize,
-    pub n: usize,
-}
+use groups::bytes;
+use options::Job;
+use options::ready;
+use options::sizes;
 
 // 0 with the list's length, or a refusal by its number.
 pub enum Made {

@@ -5,9 +5,11 @@ use mathlib.Core.Path.{_≡_, ap}
 use native.Mathlib.Omega.{arith}
 use lib.ListN.{length}
 use Rattle.paper.specs.Tests.{gather}
-use Rattle.maker.specs.Parts.{Put, offsetBytes}
-use Rattle.maker.proofs.Stores.{put-same}
-use Rattle.maker.proofs.Writing.{gather-none, gather-turn, offsets-size}
+use Rattle.groups.specs.Parts.{Put}
+use Rattle.groups.proofs.Stores.{put-same}
+use Rattle.groups.proofs.Writing.{gather-none, gather-turn}
+use Rattle.maker.specs.Trailer.{offsetBytes}
+use Rattle.maker.proofs.Answers.{offsets-size}
 use Rattle.maker.proofs.put_offsets.Statement.{statement}
 use Rattle.maker.proofs.put_offsets.Tie as tie
 

@@ -2,9 +2,9 @@
 use borrow.Author.Needs.{needs}
 use Prim.Native.Nat.{_+_}
 use native.Mathlib.Omega.{arith}
-use Rattle.maker.specs.Parts.{trailerBytes}
-use Rattle.maker.proofs.Stores.{put-more}
-use Rattle.maker.proofs.Writing.{offsets-size}
+use Rattle.groups.proofs.Stores.{put-more}
+use Rattle.maker.specs.Trailer.{trailerBytes}
+use Rattle.maker.proofs.Answers.{offsets-size}
 use Rattle.maker.proofs.put_trailer.Statement.{statement}
 use Rattle.maker.proofs.put_trailer.Tie as tie
 

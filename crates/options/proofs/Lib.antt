@@ -1,0 +1,5 @@
+pub mod Options
+pub mod ByKind
+pub mod Picking
+pub mod Turns
+pub mod Entries
