@@ -19,9 +19,9 @@ use Rattle.table.proofs.Bits.{copied-bit}
 use Rattle.table.proofs.Spans.{span-lt}
 use Rattle.groundwork.specs.Ground.{Ground}
 use Rattle.groundwork.specs.Places.{placesIn}
-use Rattle.chart.specs.Steps.{Adds, Pairs, Chained, parted, carriedIn}
+use Rattle.cells.specs.Steps.{Adds, Pairs, Chained, parted, carriedIn}
 use Rattle.chart.specs.Cells.{ranged, fitting, passing, derivable, emptied, Cell, Filled, Within, Grown, Charted}
-use Rattle.chart.proofs.Adding.{kept-copied}
+use Rattle.cells.proofs.Adding.{kept-copied}
 use Rattle.chart.proofs.Reaching.{pairs-read, reach-chained}
 use Rattle.chart.proofs.Filling.{cell-done}
 use Rattle.chart.proofs.Rows.{grammar-few}

@@ -22,10 +22,10 @@ use Rattle.table.specs.Bits.{bitAt, wiped}
 use Rattle.table.proofs.Bits.{wiped-bit}
 use Rattle.table.proofs.Spans.{lt-or-le, span-inj}
 use Rattle.groundwork.specs.Ground.{Ground}
-use Rattle.chart.specs.Steps.{Kept, Adds, parted, brought, carriedIn}
+use Rattle.cells.specs.Steps.{Kept, Adds, parted, brought, carriedIn}
 use Rattle.chart.specs.Cells.{ranged, fitting, splitting, passing, Cell, Filled, Within}
-use Rattle.chart.proofs.Adding.{kept-then, kept-wiped}
-use Rattle.chart.proofs.Splitting.{any-same}
+use Rattle.cells.proofs.Adding.{kept-then, kept-wiped}
+use Rattle.cells.proofs.Splitting.{any-same}
 use Rattle.chart.proofs.Owning.{own-parts, splits-found}
 
 module _ (S : Sheet) (pat : Pattern) where

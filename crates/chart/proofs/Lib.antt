@@ -1,6 +1,3 @@
-pub mod Adding
-pub mod Splitting
-pub mod Carrying
 pub mod Reaching
 pub mod Owning
 pub mod Filling

@@ -25,10 +25,10 @@ use Rattle.table.specs.Spans.{spanAt}
 use Rattle.table.specs.Bits.{bit, bitAt}
 use Rattle.groundwork.specs.Ground.{Ground, Splits, someLetter, pairWord, pairsAt, countAt, lengthsAt}
 use Rattle.groundwork.specs.Places.{placeOf, placesIn}
-use Rattle.chart.specs.Steps.{Adds, only, both, paired, parted}
+use Rattle.cells.specs.Steps.{Adds, only, both, paired, parted}
 use Rattle.chart.specs.Cells.{holds, ranged, fitting, splitting, among, passing, canHold, canHoldAll}
-use Rattle.chart.proofs.Adding.{adds-then}
-use Rattle.chart.proofs.Splitting.{any-same, any-fails}
+use Rattle.cells.proofs.Adding.{adds-then}
+use Rattle.cells.proofs.Splitting.{any-same, any-fails}
 use Rattle.chart.proofs.Reaching.{accepted-below, word-row, word-first, word-second}
 
 -- the steps of a cell together

@@ -15,7 +15,7 @@ use Rattle.table.specs.Bits.{bitAt}
 use Rattle.table.proofs.Bits.{bit-past}
 use Rattle.table.proofs.Spans.{lt-or-le}
 use Rattle.groundwork.specs.Ground.{Ground, pairWord, pairsAt, countAt}
-use Rattle.chart.specs.Steps.{Pairs, Chained}
+use Rattle.cells.specs.Steps.{Pairs, Chained}
 
 -- a bit that is set is a row's
 pub bit-row : (ws : List ℕ) (s r : ℕ) → bitAt ws s r ≡ true → r < 256

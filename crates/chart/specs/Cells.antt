@@ -14,7 +14,7 @@ use Rattle.paper.specs.Opens.{pattern}
 use Rattle.table.specs.Spans.{spanAt}
 use Rattle.table.specs.Bits.{bitAt}
 use Rattle.groundwork.specs.Places.{placesIn}
-use Rattle.chart.specs.Steps.{Kept}
+use Rattle.cells.specs.Steps.{Kept}
 
 -- a range that holds the byte
 unfoldable pub holds : ℕ → Row → Bool

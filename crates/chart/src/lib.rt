@@ -1,7 +1,6 @@
 // Which rows derive which span of a term whose places are known or unknown, in the lent workspace.
 // A place is a byte, or 256 where it is not known. Spans are filled the shorter ones first, each before it is read.
 pub mod singles;
-mod splits;
 
 ghost use mathlib.Core.Path.{_≡_};
 ghost use Prim.Native.Nat.{_+_, _*_, _≤_, _<_};
@@ -22,9 +21,9 @@ fn cell(s: &[u8], places: &[u16], lay: &[u64], work: &mut [u64], i: usize, m: us
     table::wipe(work, sp);
     singles::singles(s, places, lay, work, i, m, sp);
     singles::texts(s, places, lay, work, i, m, sp);
-    splits::splits(lay, work, i, m, sp);
+    cells::splits(lay, work, i, m, sp);
     let rows = trailer::field(s, 7);
-    splits::carry(lay, work, sp, rows);
+    cells::carry(lay, work, sp, rows);
 }
 
 // Every span of m places.

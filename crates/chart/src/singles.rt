@@ -1,5 +1,4 @@
 // What a cell has from rows that take their bytes themselves: ranges of one byte, and texts.
-use crate::splits;
 ghost use mathlib.Core.Path.{_≡_};
 ghost use Prim.Native.Nat.{_+_, _*_, _≤_, _<_};
 ghost use lib.ListN.{length, getD};
@@ -12,7 +11,7 @@ ghost use Rattle.paper.specs.Opens.{pattern};
 ghost use Rattle.table.specs.Bits.{bit};
 ghost use Rattle.groundwork.specs.Ground.{Ground, lengthsAt};
 ghost use Rattle.groundwork.specs.Places.{placesIn};
-ghost use Rattle.chart.specs.Steps.{Adds};
+ghost use Rattle.cells.specs.Steps.{Adds};
 ghost use Rattle.chart.specs.Cells.{«holds», ranged, fitting, among, passing, canHold, canHoldAll};
 
 // Whether row q is a range that holds the byte x.
@@ -37,7 +36,7 @@ fn ranges(s: &[u8], x: usize, work: &mut [u64], sp: usize)
     let mut q = 0;
     while q < n {
         let on = holds(s, at, q, x);
-        splits::put(work, sp, q, on);
+        cells::put(work, sp, q, on);
         q += 1;
     }
 }
@@ -143,7 +142,7 @@ pub fn texts(s: &[u8], places: &[u16], lay: &[u64], work: &mut [u64], i: usize, 
     let mut q = 0;
     while q < n {
         let on = text_fits(s, at, text, q, places, i, m, lay);
-        splits::put(work, sp, q, on);
+        cells::put(work, sp, q, on);
         q += 1;
     }
 }

@@ -23,6 +23,7 @@ use Rattle.sheet.proofs.Contents.{assertions-length}
 use Rattle.chart.specs.Cells.{Within}
 use Rattle.terms.specs.declared.Places.{Places}
 use Rattle.terms.specs.Shown.{shown, runOf, Readable}
+use Rattle.chart.proofs.Filling.{within-none, within-then}
 use Rattle.judge.specs.declared.Runs.{Runs}
 use Rattle.judge.specs.declared.held.Held.{Held}
 use Rattle.judge.specs.declared.Ruled.{Ruled}
@@ -30,14 +31,6 @@ use Rattle.judge.specs.Charts.{termOn, Keeps}
 use Rattle.judge.specs.Judged.{Told, runsOf, possibleOn, Judged}
 use Rattle.judge.proofs.Claiming.{claim-derived, claim-contains, claim-equals, text-is}
 use Rattle.judge.proofs.Holding.{none-held}
-
--- ---- the workspace
-
-pub within-none : (w : List ℕ) → Within w w
-within-none w = record { long = refl; rest = refl }
-
-pub within-more : (u v w : List ℕ) → Within u v → Within v w → Within u w
-within-more u v w a b = record { long = b .long ∙ a .long; rest = b .rest ∙ a .rest }
 
 -- ---- the sign
 
@@ -191,7 +184,7 @@ module _ (s : List ℕ) (n : ℕ) (p : List ℕ) (v : Places) where
     pub upto-more : r .ok ≡ true → Upto s n p v (i + 1) (r .held) start new
     upto-more e = record {
       possible = possible-more s n p i (assertionOf a) (u .possible) here (sym (judged-is s n p v (assertionOf a) (r .ok) (j .right) len is) ∙ e);
-      within = within-more start old new (u .within) (j .within);
+      within = within-then start old new (u .within) (j .within);
       keeps = j .keeps;
     }
 

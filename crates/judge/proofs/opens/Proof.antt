@@ -2,7 +2,8 @@ use Prim.Native.Nat.{_-_, _≤_}
 use mathlib.Core.Path.{_∙_}
 use native.Mathlib.Omega.{arith}
 use Rattle.sheet.proofs.Good.{good}
-use Rattle.judge.proofs.Judging.{within-more, all-possible, Upto, upto-none, upto-more, upto-shut}
+use Rattle.chart.proofs.Filling.{within-then}
+use Rattle.judge.proofs.Judging.{all-possible, Upto, upto-none, upto-more, upto-shut}
 use Rattle.judge.proofs.opens.Statement.{statement}
 use Rattle.judge.proofs.opens.Tie as tie
 use Rattle.judge.proofs.opens.Reads as reads
@@ -63,7 +64,7 @@ returns c =
     let v = c .before .before .before .before .before .before .before .before .before .before .before .all-of-v .ensures in
     let u = c .before .before .before .before .before .before .before .loop .inv .0 in
     let x = c .before .before .before .possible .ensures in
-    (upto-shut _ _ _ _ (v .2) (v .0) _ _ _ _ _ u _ (c .before .before .before .before .before .assertion-at .ensures .same) _ x (omega (arith, c .before .before .before .before .before .before .before .before .field3 .ensures .0, c .before .before .before .before .before .before .loop-test .taken)) (c .if1 .left), within-more _ _ _ (u .within) (x .within))
+    (upto-shut _ _ _ _ (v .2) (v .0) _ _ _ _ _ u _ (c .before .before .before .before .before .assertion-at .ensures .same) _ x (omega (arith, c .before .before .before .before .before .before .before .before .field3 .ensures .0, c .before .before .before .before .before .before .loop-test .taken)) (c .if1 .left), within-then _ _ _ (u .within) (x .within))
 
 same-length-2 : tie.Need-same-length-2 Inv-loop μ-loop
 same-length-2 c = c .before .loop .inv .0 .within .long

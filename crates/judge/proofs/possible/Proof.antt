@@ -1,7 +1,8 @@
 use mathlib.Core.Path.{sym, _∙_}
 use native.Mathlib.Omega.{arith}
+use Rattle.chart.proofs.Filling.{within-none}
 use Rattle.judge.proofs.Holding.{meant-here, keeps-on}
-use Rattle.judge.proofs.Judging.{within-none, laid-on, laid-first, got-first, got-second, read-first, read-second, end-first, end-second, end-both}
+use Rattle.judge.proofs.Judging.{laid-on, laid-first, got-first, got-second, read-first, read-second, end-first, end-second, end-both}
 use borrow.Author.Needs.{needs}
 use Rattle.judge.proofs.possible.Statement.{statement}
 use Rattle.judge.proofs.possible.Tie as tie

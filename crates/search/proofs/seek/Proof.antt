@@ -7,7 +7,7 @@ use Rattle.paper.specs.Sheet.{sheetOf}
 use Rattle.paper.specs.Opens.{opens}
 use Rattle.sheet.proofs.Good.{good}
 use Rattle.chart.specs.Cells.{Within}
-use Rattle.judge.proofs.Judging.{within-none, within-more}
+use Rattle.chart.proofs.Filling.{within-none, within-then}
 use Rattle.state.specs.Letters.{hasLetter}
 use Rattle.walk.proofs.Seek.{Seeking, seek-start, seek-marks, seek-found, seek-spent, seek-over, seek-none, seek-next, seek-length}
 use Rattle.search.proofs.Tellings.{tells-found, tells-none, tells-spent}
@@ -50,7 +50,7 @@ add-t21 : tie.Need-add-t21 Inv-loop μ-loop
 add-t21 c = omega (arith, c .before .before .before .before .before .before .before .before .before .before .if1 .taken, c .before .before .before .before .before .before .before .before .before .before .before .before .before .before .before .before .before .fits .budget)
 
 same-length : tie.Need-same-length Inv-loop μ-loop
-same-length c = (within-more _ _ _ (c .before .before .before .before .before .before .before .before .before .before .before .before .loop .inv .2) (c .before .before .before .before .before .judged .ensures .1)) .long
+same-length c = (within-then _ _ _ (c .before .before .before .before .before .before .before .before .before .before .before .before .loop .inv .2) (c .before .before .before .before .before .judged .ensures .1)) .long
 
 returns : tie.Need-returns Inv-loop μ-loop
 returns c =
@@ -59,7 +59,7 @@ returns c =
     let y = c .before .if2 .taken in (
       tells-found _ _ (c .before .before .before .before .before .before .before .before .before .before .before .before .loop .q .prefix) _ (omega (arith, i .within, i .range)) (omega (arith, i .within, i .range, i .top)) (i .letters)
           (seek-found _ _ _ _ _ _ _ _ _ i (c .before .before .before .before .before .before .before .before .before .before .if1 .taken) (w .full y) (sym (c .before .before .before .before .before .judged .ensures .0) ∙ w .opened y)),
-      within-more _ _ _ (c .before .before .before .before .before .before .before .before .before .before .before .before .loop .inv .2) (c .before .before .before .before .before .judged .ensures .1),
+      within-then _ _ _ (c .before .before .before .before .before .before .before .before .before .before .before .before .loop .inv .2) (c .before .before .before .before .before .judged .ensures .1),
     )
 
 slice-aggregate-advance : tie.Need-slice-aggregate-advance Inv-loop μ-loop
@@ -75,26 +75,26 @@ spent-requires : tie.Need-spent-requires Inv-loop μ-loop
 spent-requires c κs = tt
 
 same-length-2 : tie.Need-same-length-2 Inv-loop μ-loop
-same-length-2 c = (within-more _ _ _ (c .before .before .before .before .before .before .before .before .before .before .before .before .before .before .before .before .loop .inv .2) (c .before .before .before .before .before .before .before .before .before .judged .ensures .1)) .long
+same-length-2 c = (within-then _ _ _ (c .before .before .before .before .before .before .before .before .before .before .before .before .before .before .before .before .loop .inv .2) (c .before .before .before .before .before .before .before .before .before .judged .ensures .1)) .long
 
 returns-2 : tie.Need-returns-2 Inv-loop μ-loop
 returns-2 c = (
   tells-spent _ _ (c .spent .result) _ (search needs) (c .spent .ensures)
       (seek-over _ _ _ _ _ _ _ _ _ (c .before .before .before .before .before .before .before .before .before .before .before .before .before .before .before .before .loop .inv .0) (c .before .before .before .before .before .before .before .before .before .before .before .before .before .before .before .before .before .before .before .before .before .pre .4) _ (c .before .before .before .advance .result) _ (c .before .before .before .advance .ensures) (sym (c .before .before .before .before .before .before .before .before .before .judged .ensures .0)) (c .before .if3 .taken)),
-  within-more _ _ _ (c .before .before .before .before .before .before .before .before .before .before .before .before .before .before .before .before .loop .inv .2) (c .before .before .before .before .before .before .before .before .before .judged .ensures .1),
+  within-then _ _ _ (c .before .before .before .before .before .before .before .before .before .before .before .before .before .before .before .before .loop .inv .2) (c .before .before .before .before .before .before .before .before .before .judged .ensures .1),
 )
 
 none-requires : tie.Need-none-requires Inv-loop μ-loop
 none-requires c κs = tt
 
 same-length-3 : tie.Need-same-length-3 Inv-loop μ-loop
-same-length-3 c = (within-more _ _ _ (c .before .before .before .before .before .before .before .before .before .before .before .before .before .before .before .before .before .before .before .loop .inv .2) (c .before .before .before .before .before .before .before .before .before .before .before .before .judged .ensures .1)) .long
+same-length-3 c = (within-then _ _ _ (c .before .before .before .before .before .before .before .before .before .before .before .before .before .before .before .before .before .before .before .loop .inv .2) (c .before .before .before .before .before .before .before .before .before .before .before .before .judged .ensures .1)) .long
 
 returns-3 : tie.Need-returns-3 Inv-loop μ-loop
 returns-3 c = (
   tells-none _ _ (c .none .result) _ (search needs) (c .none .ensures)
       (seek-none _ _ _ _ _ _ _ _ _ (c .before .before .before .before .before .before .before .before .before .before .before .before .before .before .before .before .before .before .before .loop .inv .0) (c .before .before .before .before .before .before .before .before .before .before .before .before .before .before .before .before .before .before .before .before .before .before .before .before .pre .4) _ (c .before .before .before .before .before .before .advance .result) _ (c .before .before .before .before .before .before .advance .ensures) (sym (c .before .before .before .before .before .before .before .before .before .before .before .before .judged .ensures .0)) (c .before .before .before .before .if3 .left) (c .before .before .if4 .taken) (c .before .if5 .taken)),
-  within-more _ _ _ (c .before .before .before .before .before .before .before .before .before .before .before .before .before .before .before .before .before .before .before .loop .inv .2) (c .before .before .before .before .before .before .before .before .before .before .before .before .judged .ensures .1),
+  within-then _ _ _ (c .before .before .before .before .before .before .before .before .before .before .before .before .before .before .before .before .before .before .before .loop .inv .2) (c .before .before .before .before .before .before .before .before .before .before .before .before .judged .ensures .1),
 )
 
 add-n : tie.Need-add-n Inv-loop μ-loop
@@ -110,7 +110,7 @@ loop-again : tie.Need-loop-again Inv-loop μ-loop
 loop-again c = (
   rw (c .again .ensures) (seek-length _ _ _ _ _ _ _ _ _ (c .before .before .before .before .before .before .before .before .before .before .before .before .before .before .before .before .before .before .before .loop .inv .0) (c .before .before .before .before .before .before .before .before .before .before .before .before .before .before .before .before .before .before .before .before .before .before .before .before .pre .4) _ (c .before .before .before .before .before .before .advance .result) _ (c .before .before .before .before .before .before .advance .ensures) (sym (c .before .before .before .before .before .before .before .before .before .before .before .before .judged .ensures .0)) (c .before .before .before .before .if3 .left) (c .before .before .if4 .taken) (c .before .if5 .left)),
   c .before .before .before .before .before .before .advance .ensures .tallies ∙ c .before .before .before .before .before .before .before .before .before .before .before .before .before .before .before .before .before .before .before .loop .inv .1,
-  within-more _ _ _ (c .before .before .before .before .before .before .before .before .before .before .before .before .before .before .before .before .before .before .before .loop .inv .2) (c .before .before .before .before .before .before .before .before .before .before .before .before .judged .ensures .1),
+  within-then _ _ _ (c .before .before .before .before .before .before .before .before .before .before .before .before .before .before .before .before .before .before .before .loop .inv .2) (c .before .before .before .before .before .before .before .before .before .before .before .before .judged .ensures .1),
 )
 
 loop-less-2 : tie.Need-loop-less-2 Inv-loop μ-loop
@@ -120,7 +120,7 @@ loop-again-2 : tie.Need-loop-again-2 Inv-loop μ-loop
 loop-again-2 c = (
   seek-next _ _ _ _ _ _ _ _ _ (c .before .before .before .before .before .before .before .before .before .before .before .before .before .before .before .before .before .loop .inv .0) (c .before .before .before .before .before .before .before .before .before .before .before .before .before .before .before .before .before .before .before .before .before .before .pre .4) _ (c .before .before .before .before .advance .result) _ (c .before .before .before .before .advance .ensures) (sym (c .before .before .before .before .before .before .before .before .before .before .judged .ensures .0)) (c .before .before .if3 .left) (c .if4 .left),
   c .before .before .before .before .advance .ensures .tallies ∙ c .before .before .before .before .before .before .before .before .before .before .before .before .before .before .before .before .before .loop .inv .1,
-  within-more _ _ _ (c .before .before .before .before .before .before .before .before .before .before .before .before .before .before .before .before .before .loop .inv .2) (c .before .before .before .before .before .before .before .before .before .before .judged .ensures .1),
+  within-then _ _ _ (c .before .before .before .before .before .before .before .before .before .before .before .before .before .before .before .before .before .loop .inv .2) (c .before .before .before .before .before .before .before .before .before .before .judged .ensures .1),
 )
 
 spent-requires-2 : tie.Need-spent-requires-2 Inv-loop μ-loop

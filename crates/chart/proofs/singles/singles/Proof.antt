@@ -9,7 +9,7 @@ use Rattle.paper.specs.Opens.{pattern}
 use Rattle.table.specs.Bits.{bitAt}
 use Rattle.groundwork.specs.Places.{placesIn}
 use Rattle.chart.specs.Cells.{holds, ranged, among, passing}
-use Rattle.chart.proofs.Adding.{adds-none, adds-same, adds-joined}
+use Rattle.cells.proofs.Adding.{adds-none, adds-same, adds-joined}
 use Rattle.chart.proofs.Owning.{long-range}
 use Rattle.chart.proofs.Rows.{known-single, unknown-single}
 use Rattle.chart.proofs.singles.singles.Statement.{statement}

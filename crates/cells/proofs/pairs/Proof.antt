@@ -4,15 +4,15 @@ use Prim.Native.Nat.{_≤_, _-_}
 use native.Mathlib.Omega.{arith}
 use lib.ListN.{getD}
 use borrow.Author.Needs.{needs}
-use Rattle.chart.specs.Steps.{Adds, paired}
-use Rattle.chart.proofs.Adding.{adds-none}
-use Rattle.chart.proofs.Splitting.{paired-none, pairs-turn}
-use Rattle.chart.proofs.splits.pairs.Statement.{statement}
-use Rattle.chart.proofs.splits.pairs.Tie as tie
-use Rattle.chart.proofs.splits.pairs.Reads as reads
-use Rattle.chart.proofs.splits.pairs.Lts as lts
-use Rattle.chart.proofs.splits.both.Reads as both-reads
-use Rattle.chart.proofs.splits.put.Reads as put-reads
+use Rattle.cells.specs.Steps.{Adds, paired}
+use Rattle.cells.proofs.Adding.{adds-none}
+use Rattle.cells.proofs.Splitting.{paired-none, pairs-turn}
+use Rattle.cells.proofs.pairs.Statement.{statement}
+use Rattle.cells.proofs.pairs.Tie as tie
+use Rattle.cells.proofs.pairs.Reads as reads
+use Rattle.cells.proofs.pairs.Lts as lts
+use Rattle.cells.proofs.both.Reads as both-reads
+use Rattle.cells.proofs.put.Reads as put-reads
 
 abbrev Inv-loop : tie.InvT-loop
 Inv-loop lay work₀ left right sp n j₀ work j = (j ≤ n) × Adds sp (paired lay work₀ left right j) work₀ work

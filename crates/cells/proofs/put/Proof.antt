@@ -3,11 +3,11 @@ use mathlib.Core.Path.{_≡_, refl, sym, ap, _∙_, subst}
 use mathlib.Core.Bool.{false}
 use native.Mathlib.Omega.{arith}
 use borrow.Author.Needs.{needs}
-use Rattle.chart.specs.Steps.{Adds, only}
-use Rattle.chart.proofs.Adding.{adds-none, adds-set}
-use Rattle.chart.proofs.Splitting.{only-off}
-use Rattle.chart.proofs.splits.put.Statement.{statement}
-use Rattle.chart.proofs.splits.put.Tie as tie
+use Rattle.cells.specs.Steps.{Adds, only}
+use Rattle.cells.proofs.Adding.{adds-none, adds-set}
+use Rattle.cells.proofs.Splitting.{only-off}
+use Rattle.cells.proofs.put.Statement.{statement}
+use Rattle.cells.proofs.put.Tie as tie
 
 set-requires : tie.Need-set-requires
 set-requires c κs = search needs

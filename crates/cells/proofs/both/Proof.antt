@@ -1,9 +1,9 @@
 -- `chart::splits::both` meets its contract.
 use mathlib.Core.Path.{_≡_, refl, sym, ap, _∙_}
 use borrow.Author.Needs.{needs}
-use Rattle.chart.specs.Steps.{both}
-use Rattle.chart.proofs.splits.both.Statement.{statement}
-use Rattle.chart.proofs.splits.both.Tie as tie
+use Rattle.cells.specs.Steps.{both}
+use Rattle.cells.proofs.both.Statement.{statement}
+use Rattle.cells.proofs.both.Tie as tie
 
 test-requires : tie.Need-test-requires
 test-requires c κs = search needs

@@ -5,7 +5,7 @@ ghost use Prim.Native.Nat.{_+_, _-_, _*_, _≤_, _<_};
 ghost use lib.ListN.{length, getD};
 ghost use Rattle.table.specs.Spans.{spanAt};
 ghost use Rattle.groundwork.specs.Ground.{countAt};
-ghost use Rattle.chart.specs.Steps.{Adds, Pairs, Chained, only, «both», paired, parted, brought, carriedIn};
+ghost use Rattle.cells.specs.Steps.{Adds, Pairs, Chained, only, «both», paired, parted, brought, carriedIn};
 
 // Row q into span sp, where the test passed.
 pub fn put(work: &mut [u64], sp: usize, q: usize, on: bool)

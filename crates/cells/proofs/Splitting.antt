@@ -17,8 +17,8 @@ use Rattle.table.specs.Bits.{bitAt, noneAt}
 use Rattle.table.proofs.Bits.{none-bit}
 use Rattle.table.proofs.Spans.{span-inj}
 use Rattle.groundwork.specs.Ground.{pairsAt, countAt}
-use Rattle.chart.specs.Steps.{Kept, Adds, only, both, paired, parted}
-use Rattle.chart.proofs.Adding.{adds-none, adds-same, adds-then}
+use Rattle.cells.specs.Steps.{Kept, Adds, only, both, paired, parted}
+use Rattle.cells.proofs.Adding.{adds-none, adds-same, adds-then}
 
 -- one number more, at the end
 pub any-more : (n : ℕ) (f : ℕ → Bool) → (anyBelow n f || f n) ≡ anyBelow (n + 1) f

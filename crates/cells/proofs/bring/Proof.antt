@@ -2,11 +2,11 @@
 use mathlib.Core.Path.{_≡_, refl, sym, ap, _∙_, subst}
 use native.Mathlib.Omega.{arith}
 use borrow.Author.Needs.{needs}
-use Rattle.chart.specs.Steps.{Adds, brought}
-use Rattle.chart.proofs.Adding.{adds-joined}
-use Rattle.chart.proofs.Carrying.{bring-none, bring-all}
-use Rattle.chart.proofs.splits.bring.Statement.{statement}
-use Rattle.chart.proofs.splits.bring.Tie as tie
+use Rattle.cells.specs.Steps.{Adds, brought}
+use Rattle.cells.proofs.Adding.{adds-joined}
+use Rattle.cells.proofs.Carrying.{bring-none, bring-all}
+use Rattle.cells.proofs.bring.Statement.{statement}
+use Rattle.cells.proofs.bring.Tie as tie
 
 test-requires : tie.Need-test-requires
 test-requires c κs = search needs

@@ -11,9 +11,9 @@ use lib.ListN.{length}
 use Rattle.paper.proofs.Tests.{any-intro, any-elim, and-intro, and-left, and-right, or-left, or-right, or-cases, and-true, same-test}
 use Rattle.table.specs.Bits.{bitAt, noneAt}
 use Rattle.table.proofs.Bits.{none-bit}
-use Rattle.chart.specs.Steps.{Kept, Adds, Chained, brought, carriedIn}
-use Rattle.chart.proofs.Adding.{kept-none, kept-then, adds-none, adds-same}
-use Rattle.chart.proofs.Splitting.{any-fails}
+use Rattle.cells.specs.Steps.{Kept, Adds, Chained, brought, carriedIn}
+use Rattle.cells.proofs.Adding.{kept-none, kept-then, adds-none, adds-same}
+use Rattle.cells.proofs.Splitting.{any-fails}
 
 -- the first c rows have had their turn: what was there stays, what reaches one of them that was there is in, and nothing else is
 pub record Carrying (lay : List ℕ) (sp n : ℕ) (old now : List ℕ) (c : ℕ) : Type 0 where

@@ -7,14 +7,14 @@ use borrow.Author.Needs.{needs}
 use borrow.Author.Tests.{eqb-true}
 use Rattle.table.specs.Spans.{spanAt}
 use Rattle.table.proofs.Spans.{span-lt}
-use Rattle.chart.specs.Steps.{Adds, parted}
-use Rattle.chart.proofs.Adding.{adds-none}
-use Rattle.chart.proofs.Splitting.{left-next, right-is, left-apart, right-apart, parted-none, split-turn, no-pairs}
-use Rattle.chart.proofs.splits.splits.Statement.{statement}
-use Rattle.chart.proofs.splits.splits.Tie as tie
-use Rattle.chart.proofs.splits.splits.Reads as reads
-use Rattle.chart.proofs.splits.splits.Lts as lts
-use Rattle.chart.proofs.splits.split.Reads as split-reads
+use Rattle.cells.specs.Steps.{Adds, parted}
+use Rattle.cells.proofs.Adding.{adds-none}
+use Rattle.cells.proofs.Splitting.{left-next, right-is, left-apart, right-apart, parted-none, split-turn, no-pairs}
+use Rattle.cells.proofs.splits.Statement.{statement}
+use Rattle.cells.proofs.splits.Tie as tie
+use Rattle.cells.proofs.splits.Reads as reads
+use Rattle.cells.proofs.splits.Lts as lts
+use Rattle.cells.proofs.split.Reads as split-reads
 use Rattle.table.proofs.span.Reads as span-reads
 
 abbrev Inv-loop : tie.InvT-loop

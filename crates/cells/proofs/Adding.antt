@@ -30,7 +30,7 @@ use Rattle.table.proofs.Bits.{
   joined-apart,
   drop-joined,
 }
-use Rattle.chart.specs.Steps.{Kept, Adds, only}
+use Rattle.cells.specs.Steps.{Kept, Adds, only}
 
 -- the words of a span lie among those of the workspace
 pub in-words : (sp : ℕ) → sp < 1891 → 4 * sp + 4 ≤ words

@@ -2,9 +2,9 @@
 use mathlib.Core.Path.{_≡_, refl, sym, ap, _∙_, subst}
 use lib.ListN.{getD}
 use borrow.Author.Needs.{needs}
-use Rattle.chart.proofs.Splitting.{over-left, over-right}
-use Rattle.chart.proofs.splits.split.Statement.{statement}
-use Rattle.chart.proofs.splits.split.Tie as tie
+use Rattle.cells.proofs.Splitting.{over-left, over-right}
+use Rattle.cells.proofs.split.Statement.{statement}
+use Rattle.cells.proofs.split.Tie as tie
 
 none-requires : tie.Need-none-requires
 none-requires c κs = search needs

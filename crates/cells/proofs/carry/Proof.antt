@@ -3,12 +3,12 @@ use mathlib.Core.Path.{_≡_, refl, sym, ap, _∙_, subst}
 use Prim.Native.Nat.{_≤_, _-_}
 use native.Mathlib.Omega.{arith}
 use borrow.Author.Needs.{needs}
-use Rattle.chart.proofs.Carrying.{Carrying, carry-start, carry-turn, carry-done, carry-none}
-use Rattle.chart.proofs.splits.carry.Statement.{statement}
-use Rattle.chart.proofs.splits.carry.Tie as tie
-use Rattle.chart.proofs.splits.carry.Reads as reads
-use Rattle.chart.proofs.splits.carry.Lts as lts
-use Rattle.chart.proofs.splits.bring.Reads as bring-reads
+use Rattle.cells.proofs.Carrying.{Carrying, carry-start, carry-turn, carry-done, carry-none}
+use Rattle.cells.proofs.carry.Statement.{statement}
+use Rattle.cells.proofs.carry.Tie as tie
+use Rattle.cells.proofs.carry.Reads as reads
+use Rattle.cells.proofs.carry.Lts as lts
+use Rattle.cells.proofs.bring.Reads as bring-reads
 use Rattle.table.proofs.none.Reads as none-reads
 
 abbrev Inv-loop : tie.InvT-loop
