@@ -1,6 +1,6 @@
 // The reading: a bit of the workspace for each row and each part of the word that it accepts, the shorter lengths first.
 use list::fields;
-use list::fields::Choice;
+use list::fields::Opt;
 ghost use mathlib.Core.Path.{_≡_};
 ghost use Prim.Native.Nat.{_+_, _≤_, _<_};
 ghost use lib.ListN.{length};
@@ -28,20 +28,20 @@ fn stands(part: &[u8], word: &[u8], i: usize) -> bool
 }
 
 // Whether the option holds of the m bytes from place i on. A step looks at the bits of shorter lengths.
-fn holds(text: &[u8], word: &[u8], work: &[u64], x: Choice, m: usize, i: usize) -> bool
+fn holds(text: &[u8], word: &[u8], work: &[u64], x: Opt, m: usize, i: usize) -> bool
     requires { ⌜ Obeys (length (now text)) 256 m (optionOf x) × (i + m ≤ length (now word)) × (length (now word) ≤ 60) × (7564 ≤ length (now work)) ⌝ }
     ensures { λ r. ⌜ r ≡ «holds» (now (text .entry)) (exactly (now (word .entry))) (inTable (now (work .entry))) m i (optionOf x) ⌝ }
 {
     match x {
-        Choice::Byte(low, high) => {
+        Opt::Byte(low, high) => {
             let b = numbers::wide(word[i]);
             low <= b && b <= high
         }
-        Choice::Stretch(a, b) => {
+        Opt::Stretch(a, b) => {
             let e = a + b;
             stands(&text[a..e], word, i)
         }
-        Choice::Split(k, a, b) => {
+        Opt::Split(k, a, b) => {
             let s = table::span(i, k);
             let t = table::span(i + k, m - k);
             if table::test(work, s, a) {
@@ -50,11 +50,11 @@ fn holds(text: &[u8], word: &[u8], work: &[u64], x: Choice, m: usize, i: usize) 
                 false
             }
         }
-        Choice::Nil => true,
+        Opt::Nil => true,
     }
 }
 
-fn mark_start(text: &[u8], word: &[u8], work: &mut [u64], x: Choice, m: usize, r: usize, i: usize)
+fn mark_start(text: &[u8], word: &[u8], work: &mut [u64], x: Opt, m: usize, r: usize, i: usize)
     requires { ⌜ Obeys (length (now text)) 256 m (optionOf x) × (i + m ≤ length (now word)) × (length (now word) ≤ 60) × (7564 ≤ length (now work)) × (r < 256) ⌝ }
     ensures { λ _. ⌜ now (work .exit) ≡ markStart (now (text .entry)) (now (word .entry)) m r (optionOf x) i (now (work .entry)) ⌝ }
 {
@@ -66,7 +66,7 @@ fn mark_start(text: &[u8], word: &[u8], work: &mut [u64], x: Choice, m: usize, r
 }
 
 // An option at each start.
-fn mark_option(text: &[u8], word: &[u8], work: &mut [u64], x: Choice, m: usize, r: usize)
+fn mark_option(text: &[u8], word: &[u8], work: &mut [u64], x: Opt, m: usize, r: usize)
     requires { ⌜ Obeys (length (now text)) 256 m (optionOf x) × (m ≤ length (now word)) × (length (now word) ≤ 60) × (7564 ≤ length (now work)) × (r < 256) ⌝ }
     ensures { λ _. ⌜ now (work .exit) ≡ markOption (now (text .entry)) (now (word .entry)) m r (optionOf x) (now (work .entry)) ⌝ }
 {
@@ -93,7 +93,7 @@ fn mark_head(
     let count = numbers::u32_at(list, o + 4);
     let mut j: usize = 0;
     while j < count {
-        let x = fields::choice_at(list, o + 8 + 8 * j);
+        let x = fields::option_at(list, o + 8 + 8 * j);
         mark_option(text, word, work, x, m, r);
         j += 1;
     }

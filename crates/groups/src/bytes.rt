@@ -34,7 +34,7 @@ pub fn put_u32(list: &mut [u8], o: usize, x: usize) -> usize
 }
 
 // The fields of an option.
-pub struct Choice {
+pub struct OptionFields {
     pub kind: u8,
     pub k: u8,
     pub a: usize,
@@ -42,7 +42,7 @@ pub struct Choice {
 }
 
 // An option at o.
-pub fn put_option(list: &mut [u8], o: usize, x: Choice) -> usize
+pub fn put_option(list: &mut [u8], o: usize, x: OptionFields) -> usize
     requires { ⌜ o + 8 ≤ length (now list) ⌝ }
     ensures { λ r. ⌜ Put (optionFields (x .kind) (x .k) (x .a) (x .b)) o (now (list .entry)) (now (list .exit)) r ⌝ }
 {

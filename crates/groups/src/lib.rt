@@ -8,7 +8,7 @@ ghost use Rattle.paper.specs.Sheet.{grammarOf};
 ghost use Rattle.paper.specs.Cuts.{splits, ownOpts, options, allBytes, entry, group, groups};
 ghost use Rattle.options.specs.Prepared.{Prepared};
 ghost use Rattle.groups.specs.Parts.{Put};
-use bytes::Choice;
+use bytes::OptionFields;
 use options::Job;
 use options::sizes;
 
@@ -23,7 +23,7 @@ fn put_splits(list: &mut [u8], o: usize, m: usize, a: usize, b: usize) -> usize
         p = bytes::put_option(
             list,
             p,
-            Choice {
+            OptionFields {
                 kind: 3,
                 k: k as u8,
                 a,
@@ -49,7 +49,7 @@ fn put_own(list: &mut [u8], o: usize, f: sheet::Fields, m: usize, q: usize) -> u
                 return bytes::put_option(
                     list,
                     o,
-                    Choice {
+                    OptionFields {
                         kind: 1,
                         k: 0,
                         a,
@@ -64,7 +64,7 @@ fn put_own(list: &mut [u8], o: usize, f: sheet::Fields, m: usize, q: usize) -> u
                 return bytes::put_option(
                     list,
                     o,
-                    Choice {
+                    OptionFields {
                         kind: 2,
                         k: 0,
                         a,
@@ -100,7 +100,7 @@ fn put_options(s: &[u8], ws: &[u64], list: &mut [u8], j: Job, t: Spot) -> usize
             return bytes::put_option(
                 list,
                 o,
-                Choice {
+                OptionFields {
                     kind: 4,
                     k: 0,
                     a: 0,

@@ -9,8 +9,8 @@ use Rattle.paper.specs.Cuts.{Opt, Byte, Stretch, Split, Nil}
 use Rattle.paper.specs.Gate.{nOf, rowsOf, rootOf, trailerOf, optionOk}
 use Rattle.list.specs.declared.fields.Trailer.{Trailer}
 use Rattle.list.specs.declared.fields.Fields.{Fields}
-use Rattle.list.specs.declared.fields.Choice.{Choice}
-use Rattle.list.specs.declared.fields.Choice.the-variants as choice
+use Rattle.list.specs.declared.fields.Opt as read
+use Rattle.list.specs.declared.fields.Opt.the-variants as case
 use Rattle.list.specs.declared.Past.{Past}
 use Rattle.list.specs.declared.Past.the-variants.{End, Broken}
 
@@ -36,12 +36,12 @@ pub record Fielded (l : List ℕ) (o : ℕ) (f : Fields) : Type 0 where
   pub a-small : f .a < 65536
   pub b-small : f .b < 65536
 
--- the option that a choice is
-abbrev pub optionOf : Choice → Opt
-optionOf (choice.Byte lo hi) = Byte lo hi
-optionOf (choice.Stretch off len) = Stretch off len
-optionOf (choice.Split k a b) = Split k a b
-optionOf choice.Nil = Nil
+-- the paper's option that an option read is
+abbrev pub optionOf : read.Opt → Opt
+optionOf (case.Byte lo hi) = Byte lo hi
+optionOf (case.Stretch off len) = Stretch off len
+optionOf (case.Split k a b) = Split k a b
+optionOf case.Nil = Nil
 
 -- option j of those from o on obeys
 abbrev pub optionFrom : List ℕ → (text m o j : ℕ) → Bool

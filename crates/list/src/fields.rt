@@ -107,23 +107,23 @@ pub fn fields_at(list: &[u8], o: usize) -> Fields
 }
 
 // An option: one byte, a stretch of the text, the first k bytes by one row and the rest by another, or no byte.
-pub enum Choice {
+pub enum Opt {
     Byte(usize, usize),
     Stretch(usize, usize),
     Split(usize, usize, usize),
     Nil,
 }
 
-pub fn choice_at(list: &[u8], o: usize) -> Choice
+pub fn option_at(list: &[u8], o: usize) -> Opt
     requires { ⌜ o + 8 ≤ length (now list) ⌝ }
     ensures { λ x. ⌜ optionOf x ≡ optOf (now (list .entry)) o ⌝ }
 {
     let f = fields_at(list, o);
     let kind = f.kind;
     match kind {
-        1 => Choice::Byte(f.a, f.b),
-        2 => Choice::Stretch(f.a, f.b),
-        3 => Choice::Split(f.k, f.a, f.b),
-        0 | 4..=255 => Choice::Nil,
+        1 => Opt::Byte(f.a, f.b),
+        2 => Opt::Stretch(f.a, f.b),
+        3 => Opt::Split(f.k, f.a, f.b),
+        0 | 4..=255 => Opt::Nil,
     }
 }

@@ -8,16 +8,16 @@ use mathlib.Core.List.{List, [], _∷_, _++_}
 use native.Mathlib.Omega.{arith}
 use native.Mathlib.Decide.{decLt}
 use borrow.Author.Tests.{lt-ltb, le-ltb}
-use Rattle.paper.specs.Walk.{Walked, found, none, plus, then, pick, count, run, upTo, every, tree, walk}
+use Rattle.paper.specs.Walk.{Walked, found, none, plus, then, pick, count, run, rising, every, tree, walk}
 use Rattle.paper.specs.Answers.{Spent, whole, under}
 
 -- ---- the count
 
-count-plus : (k : ℕ) (o : Walked) → count (plus k o) ≡ k + count o
+pub count-plus : (k : ℕ) (o : Walked) → count (plus k o) ≡ k + count o
 count-plus k (found w t) = refl
 count-plus k (none t) = refl
 
-count-then : (o r : Walked) → count o ≤ count (then o r)
+pub count-then : (o r : Walked) → count o ≤ count (then o r)
 count-then (found w t) r = omega arith
 count-then (none t) r = omega (arith, count-plus t r)
 
@@ -30,7 +30,7 @@ module _ (is : ℕ → Bool) (opens : ℕ → List ℕ → Bool) where
       go : (b : Bool) → 1 ≤ count (pick b (found p 1) (none 1))
       go true = omega arith
       go false = omega arith
-  count-tree n (suc d) p = go (opens n p) (upTo is (λ b. tree is opens n d (p ++ (b ∷ []))) 256 0)
+  count-tree n (suc d) p = go (opens n p) (rising is (λ b. tree is opens n d (p ++ (b ∷ []))) 256 0)
     where
       go : (b : Bool) (o : Walked) → 1 ≤ count (pick b (plus 1 o) (none 1))
       go true o = omega (arith, count-plus 1 o)
@@ -38,7 +38,7 @@ module _ (is : ℕ → Bool) (opens : ℕ → List ℕ → Bool) where
 
   -- a walk of at least one length judges the empty prefix
   pub count-walk : (lo hi : ℕ) → lo ≤ hi → 1 ≤ count (walk is opens lo hi)
-  unfolding walk upTo run
+  unfolding walk rising run
   count-walk lo hi h =
       let z : suc hi - lo ≡ suc (hi - lo) = omega arith in
       let o = tree is opens lo lo [] in

@@ -12,7 +12,7 @@ use Rattle.paper.specs.Open.{termPlaces}
 use Rattle.paper.specs.Decide as decide
 use Rattle.paper.specs.Decide.{rounds, closure, nullRow, nullRule, nullable, reachRow, reachRule, carried, reaches, fits, someIn, split, ownRow, level, accepts}
 use Rattle.paper.specs.Opens.{allows, pattern, meet, canHold, isUnknown, canFail, can, possible, opens}
-use Rattle.paper.specs.Walk.{run, upTo, tree, walk}
+use Rattle.paper.specs.Walk.{run, rising, tree, walk}
 use Rattle.paper.specs.Cuts.{splits, ownOpts, options, optionBytes, allBytes, headBytes, entry, group, groups, listTrailer, cutList}
 use Rattle.paper.specs.Gate.{trailerOf, groupAt}
 use Rattle.paper.specs.Answers.{words, walkOf, under, solverRefusal, solverSays}
@@ -26,6 +26,6 @@ unfolding keys record6 record12 sheetBytes allOfV vInRow rowsB sheetB sheetK5 sh
     letterOk rowFields rowOk partFields partOk assertFields assertOk recordOk tableOk partLen termLen assertFits contentRefusal tableRefusal refusal
     stretch rowOf row partOf placesOf piece term cutInside claimOf letter partsOf inside spanAt rowAt partAt assertionAt textOf grammarOf sheetOf termPlaces
     rounds closure nullRow nullRule nullable reachRow reachRule carried reaches fits someIn split ownRow level decide.upTo accepts
-    allows pattern meet canHold isUnknown canFail can possible opens run upTo tree walk
+    allows pattern meet canHold isUnknown canFail can possible opens run rising tree walk
     splits ownOpts options optionBytes allBytes headBytes entry group groups listTrailer cutList trailerOf groupAt words walkOf under solverRefusal solverSays
 keys-right = (refl, (refl, (refl, (refl, (refl, (refl, (refl, (refl, (refl, (refl, (refl, ((refl, refl), (refl, (refl, (refl, (refl, (refl, (refl, (refl, (refl, tt))))))))))))))))))))

@@ -8,7 +8,7 @@ use mathlib.Core.List.{List, [], _∷_, _++_, append-assoc, append-nil}
 use native.Mathlib.Omega.{arith}
 use native.Mathlib.Decide.{decLt}
 use lib.ListN.{length, length-append}
-use Rattle.paper.specs.Walk.{Walked, found, none, plus, then, pick, run, upTo, every, tree, walk}
+use Rattle.paper.specs.Walk.{Walked, found, none, plus, then, pick, run, rising, every, tree, walk}
 use Rattle.paper.specs.Sheet.{Sheet, letter}
 use Rattle.paper.specs.Satisfy.{Letters, Satisfies}
 use Rattle.paper.specs.Opens.{opens}
@@ -134,9 +134,9 @@ module _ (is : ℕ → Bool) (f : ℕ → Walked) (C : ℕ → List ℕ → Type
       go true e g = rw e (first c k (f c) (run is f (suc c) k) e (each c l (omega arith) e) g)
       go false e g = rw e (skip c k (run is f (suc c) k) e g)
 
-  upTo-first : FirstOf (λ u. (x : ℕ) × (low ≤ x) × (x < top) × (is x ≡ true) × C x u) (upTo is f top low)
-  unfolding upTo run
-  upTo-first = go (decLt top low)
+  rising-first : FirstOf (λ u. (x : ℕ) × (low ≤ x) × (x < top) × (is x ≡ true) × C x u) (rising is f top low)
+  unfolding rising run
+  rising-first = go (decLt top low)
     where
       go : Dec (top < low) → FirstOf (λ u. (x : ℕ) × (low ≤ x) × (x < top) × (is x ≡ true) × C x u) (run is f low (top - low))
       go (yes h) =
@@ -210,20 +210,20 @@ module _ (s : Sheet) where
     where
       go : (o : Bool) → opens s n p ≡ o
           → ((x : ℕ) → 0 ≤ x → x < 256 → letter s x ≡ true → FirstOf (On (p ++ (x ∷ [])) d) (tree (letter s) (opens s) n d (p ++ (x ∷ []))))
-          → FirstOf (On p (suc d)) (pick o (plus 1 (upTo (letter s) (λ x. tree (letter s) (opens s) n d (p ++ (x ∷ []))) 256 0)) (none 1))
+          → FirstOf (On p (suc d)) (pick o (plus 1 (rising (letter s) (λ x. tree (letter s) (opens s) n d (p ++ (x ∷ []))) 256 0)) (none 1))
       go true o ih =
-          let k = upTo (letter s) (λ x. tree (letter s) (opens s) n d (p ++ (x ∷ []))) 256 0 in
+          let k = rising (letter s) (λ x. tree (letter s) (opens s) n d (p ++ (x ∷ []))) 256 0 in
           first-plus (On p (suc d)) 1 k
           (first-map _ (On p (suc d)) k (cons-on p d) (on-cons p d)
-          (upTo-first (letter s) (λ x. tree (letter s) (opens s) n d (p ++ (x ∷ []))) (λ x. On (p ++ (x ∷ [])) d) (on-ord p d) 0 256 ih))
+          (rising-first (letter s) (λ x. tree (letter s) (opens s) n d (p ++ (x ∷ []))) (λ x. On (p ++ (x ∷ [])) d) (on-ord p d) 0 256 ih))
       go false o ih = on-shut n (suc d) p e o
 
   -- all lengths: THE THEOREM
   pub walk-finds : FirstOf (Satisfies s) (walkOf s)
   unfolding walkOf walk
   walk-finds =
-      first-map _ (Satisfies s) (upTo every (λ n. tree (letter s) (opens s) n n []) (suc (s .longest)) (s .shortest)) to from
-      (upTo-first every (λ n. tree (letter s) (opens s) n n []) (λ n. On [] n) ord (s .shortest) (suc (s .longest))
+      first-map _ (Satisfies s) (rising every (λ n. tree (letter s) (opens s) n n []) (suc (s .longest)) (s .shortest)) to from
+      (rising-first every (λ n. tree (letter s) (opens s) n n []) (λ n. On [] n) ord (s .shortest) (suc (s .longest))
       (λ n a b t. tree-first n n [] (omega arith) a (omega arith) tt))
     where
       ord : (c e : ℕ) → c < e → (u w : List ℕ) → On [] c u → On [] e w → Before w u → ⊥

@@ -36,9 +36,9 @@ run is f c (suc k) =
     let s = then (f c) r in
     pick (is c) s r
 
--- the numbers from c up to e, e not among them
-unfoldable pub upTo : (ℕ → Bool) → (ℕ → Walked) → ℕ → ℕ → Walked
-upTo is f e c = run is f c (e - c)
+-- at the numbers from c up to e, e not among them
+unfoldable pub rising : (ℕ → Bool) → (ℕ → Walked) → ℕ → ℕ → Walked
+rising is f e c = run is f c (e - c)
 
 abbrev pub every : ℕ → Bool
 every n = true
@@ -49,9 +49,9 @@ module _ (is : ℕ → Bool) (opens : ℕ → List ℕ → Bool) where
   unfoldable pub tree : ℕ → ℕ → List ℕ → Walked
   tree n zero p = pick (opens n p) (found p 1) (none 1)
   tree n (suc d) p =
-      let r = plus 1 (upTo is (λ b. tree n d (p ++ (b ∷ []))) 256 0) in
+      let r = plus 1 (rising is (λ b. tree n d (p ++ (b ∷ []))) 256 0) in
       pick (opens n p) r (none 1)
 
   -- "lengths n rise from shortest to longest; for each n, prefixes .. are walked from the empty one"
   unfoldable pub walk : ℕ → ℕ → Walked
-  walk lo hi = upTo every (λ n. tree n n []) (suc hi) lo
+  walk lo hi = rising every (λ n. tree n n []) (suc hi) lo

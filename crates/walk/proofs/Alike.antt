@@ -4,7 +4,7 @@ use Prim.Native.Nat.{ℕ, zero, suc}
 use native.Mathlib.Omega.{arith}
 use mathlib.Core.Bool.{Bool, true, false}
 use mathlib.Core.List.{List, [], _∷_, _++_, append-assoc}
-use Rattle.paper.specs.Walk.{Walked, found, none, plus, then, pick, run, upTo, tree}
+use Rattle.paper.specs.Walk.{Walked, found, none, plus, then, pick, run, rising, tree}
 use Rattle.walk.specs.Progress.{Alike}
 
 -- what a walk comes to, but for the word
@@ -42,8 +42,8 @@ shape-run is f g h (suc k) c =
     shape-pick (is c) _ _ _ _ (shape-then (f c) (g c) (run is f (suc c) k) (run is g (suc c) k) (h c) i) i
 
 shape-open : (x : Bool) (is : ℕ → Bool) (f g : ℕ → Walked) → ((b : ℕ) → shape (f b) ≡ shape (g b))
-    → shape (pick x (plus 1 (upTo is f 256 0)) (none 1)) ≡ shape (pick x (plus 1 (upTo is g 256 0)) (none 1))
-unfolding upTo
+    → shape (pick x (plus 1 (rising is f 256 0)) (none 1)) ≡ shape (pick x (plus 1 (rising is g 256 0)) (none 1))
+unfolding rising
 shape-open true is f g h = shape-plus 1 (run is f 0 256) (run is g 0 256) (shape-run is f g h 256 0)
 shape-open false is f g h = refl
 

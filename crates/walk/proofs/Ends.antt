@@ -7,18 +7,19 @@ use native.Mathlib.Numerals.{add-one}
 use mathlib.Core.Bool.{Bool, true}
 use mathlib.Core.List.{List, []}
 use lib.ListN.{take, getD}
-use Rattle.paper.specs.Walk.{Walked, found, none, plus, then, count, upTo, every, tree, walk}
+use Rattle.paper.specs.Walk.{Walked, found, none, plus, then, count, rising, every, tree, walk}
 use Rattle.paper.specs.Answers.{Found, None, Spent, whole, under}
 use Rattle.paper.proofs.Budget.{count-tree, under-above, under-within}
 use Rattle.state.specs.declared.State.{State}
+use Rattle.paper.proofs.Budget.{count-plus, count-then}
 use Rattle.walk.specs.Progress.{At, Done, Knows, Judging, Landed, Over}
-use Rattle.walk.proofs.Runs.{plus-zero, plus-plus, count-plus, count-then, upTo-end, upTo-take, tree-word}
+use Rattle.walk.proofs.Runs.{plus-zero, plus-plus, rising-end, rising-take, tree-word}
 use Rattle.walk.proofs.Steps.{whole-found, whole-count}
 
 module _ (is : ℕ → Bool) (slot : List ℕ) (opens : ℕ → List ℕ → Bool) (lo hi : ℕ) where
   -- the walk of the lengths from n on
   abbrev lengths : ℕ → Walked
-  lengths n = upTo every (λ m. tree is opens m m []) (suc hi) n
+  lengths n = rising every (λ m. tree is opens m m []) (suc hi) n
 
   -- the lengths below n took a trials
   abbrev pub Length : ℕ → ℕ → Type 0
@@ -29,7 +30,7 @@ module _ (is : ℕ → Bool) (slot : List ℕ) (opens : ℕ → List ℕ → Boo
   first-length = sym (plus-zero _)
 
   length-of : (n a : ℕ) → n ≤ hi → Length n a → walk is opens lo hi ≡ plus a (then (tree is opens n n []) (lengths (suc n)))
-  length-of n a h e = e ∙ ap (plus a) (upTo-take every _ (suc hi) n (omega arith) refl)
+  length-of n a h e = e ∙ ap (plus a) (rising-take every _ (suc hi) n (omega arith) refl)
 
   length-none : (n a t : ℕ) → n ≤ hi → Length n a → a ≤ t → tree is opens n n [] ≡ none (t - a) → Length (suc n) t
   length-none n a t h e l g =
@@ -87,5 +88,5 @@ module _ (is : ℕ → Bool) (slot : List ℕ) (opens : ℕ → List ℕ → Boo
       → under budget (walk is opens lo hi) ≡ None (q .trials)
   end-none budget n a q m h e l y g d =
       let f : Length (suc hi) (q .trials) = rw h at (landed-none n a q m (omega arith) e y g d) in
-      let v : walk is opens lo hi ≡ none (q .trials) = f ∙ rw (upTo-end every (λ m. tree is opens m m []) (suc hi) (suc hi) (omega arith), add-zero) in
+      let v : walk is opens lo hi ≡ none (q .trials) = f ∙ rw (rising-end every (λ m. tree is opens m m []) (suc hi) (suc hi) (omega arith), add-zero) in
       under-within budget (walk is opens lo hi) (rw v l) ∙ ap whole v

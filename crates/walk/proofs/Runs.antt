@@ -5,7 +5,7 @@ use native.Mathlib.Nat.{add-assoc, zero-add}
 use native.Mathlib.Omega.{arith}
 use mathlib.Core.Bool.{Bool, true, false}
 use mathlib.Core.List.{List, [], _∷_, _++_}
-use Rattle.paper.specs.Walk.{Walked, found, none, plus, then, count, run, upTo, tree}
+use Rattle.paper.specs.Walk.{Walked, found, none, plus, then, count, run, rising, tree}
 
 pub plus-zero : (o : Walked) → plus 0 o ≡ o
 plus-zero (found w t) = ap (found w) (zero-add t)
@@ -15,44 +15,36 @@ pub plus-plus : (a b : ℕ) (o : Walked) → plus (a + b) o ≡ plus a (plus b o
 plus-plus a b (found w t) = ap (found w) (add-assoc a b t)
 plus-plus a b (none t) = ap none (add-assoc a b t)
 
-pub count-plus : (k : ℕ) (o : Walked) → count (plus k o) ≡ k + count o
-count-plus k (found w t) = refl
-count-plus k (none t) = refl
-
-pub count-then : (o r : Walked) → count o ≤ count (then o r)
-count-then (found w t) r = omega arith
-count-then (none t) r = omega (arith, count-plus t r)
-
 -- ---- a run of walks over the numbers from c up to e
 module _ (is : ℕ → Bool) (f : ℕ → Walked) (e : ℕ) where
-  pub upTo-end : (c : ℕ) → e ≤ c → upTo is f e c ≡ none 0
-  unfolding upTo run
-  upTo-end c h =
+  pub rising-end : (c : ℕ) → e ≤ c → rising is f e c ≡ none 0
+  unfolding rising run
+  rising-end c h =
       let z : e - c ≡ 0 = omega arith in
       rw z
 
-  pub upTo-take : (c : ℕ) → c < e → is c ≡ true → upTo is f e c ≡ then (f c) (upTo is f e (suc c))
-  unfolding upTo run
-  upTo-take c h t =
+  pub rising-take : (c : ℕ) → c < e → is c ≡ true → rising is f e c ≡ then (f c) (rising is f e (suc c))
+  unfolding rising run
+  rising-take c h t =
       let z : e - c ≡ suc (e - suc c) = omega arith in
       rw (z, t)
 
-  upTo-skip : (c : ℕ) → c < e → is c ≡ false → upTo is f e c ≡ upTo is f e (suc c)
-  unfolding upTo run
-  upTo-skip c h t =
+  rising-skip : (c : ℕ) → c < e → is c ≡ false → rising is f e c ≡ rising is f e (suc c)
+  unfolding rising run
+  rising-skip c h t =
       let z : e - c ≡ suc (e - suc c) = omega arith in
       rw (z, t)
 
-  skips : (k c b : ℕ) → c + k ≡ b → b ≤ e → ((x : ℕ) → x < b → c ≤ x → is x ≡ false) → upTo is f e c ≡ upTo is f e b
+  skips : (k c b : ℕ) → c + k ≡ b → b ≤ e → ((x : ℕ) → x < b → c ≤ x → is x ≡ false) → rising is f e c ≡ rising is f e b
   skips zero c b p h gap =
       let z : c ≡ b = omega arith in
       rw z
   skips (suc k) c b p h gap =
-      upTo-skip c (omega arith) (gap c (omega arith) (omega arith)) ∙ skips k (suc c) b (omega arith) h (λ x l m. gap x l (omega arith))
+      rising-skip c (omega arith) (gap c (omega arith) (omega arith)) ∙ skips k (suc c) b (omega arith) h (λ x l m. gap x l (omega arith))
 
   -- where there is none from c up to b, b is as good a start
-  pub upTo-from : (c b : ℕ) → c ≤ b → b ≤ e → ((x : ℕ) → x < b → c ≤ x → is x ≡ false) → upTo is f e c ≡ upTo is f e b
-  upTo-from c b l h gap = skips (b - c) c b (omega arith) h gap
+  pub rising-from : (c b : ℕ) → c ≤ b → b ≤ e → ((x : ℕ) → x < b → c ≤ x → is x ≡ false) → rising is f e c ≡ rising is f e b
+  rising-from c b l h gap = skips (b - c) c b (omega arith) h gap
 
 -- ---- the walk of a prefix
 module _ (is : ℕ → Bool) (opens : ℕ → List ℕ → Bool) where
@@ -62,7 +54,7 @@ module _ (is : ℕ → Bool) (opens : ℕ → List ℕ → Bool) where
   tree-shut n (suc d) p e = rw e
 
   pub tree-open : (n k : ℕ) (p : List ℕ) → k < n → opens n p ≡ true
-      → tree is opens n (n - k) p ≡ plus 1 (upTo is (λ b. tree is opens n (n - suc k) (p ++ (b ∷ []))) 256 0)
+      → tree is opens n (n - k) p ≡ plus 1 (rising is (λ b. tree is opens n (n - suc k) (p ++ (b ∷ []))) 256 0)
   unfolding tree
   tree-open n k p h e =
       let z : n - k ≡ suc (n - suc k) = omega arith in

@@ -10,8 +10,9 @@ use lib.ListN.{length, take, getD, set}
 use lib.Seq.{take-suc-set, take-set-le, getD-set-other, getD-set-same}
 use Rattle.paper.specs.Walk.{Walked, found, none, plus, then, count, tree}
 use Rattle.state.specs.Letters.{First}
+use Rattle.paper.proofs.Budget.{count-plus, count-then}
 use Rattle.walk.specs.Progress.{kids, Part, Parts, At, Done}
-use Rattle.walk.proofs.Runs.{plus-plus, count-plus, count-then, upTo-end, upTo-take, upTo-from, tree-shut, tree-open}
+use Rattle.walk.proofs.Runs.{plus-plus, rising-end, rising-take, rising-from, tree-shut, tree-open}
 
 span : (a b c : ℕ) (o : Walked) → a ≤ b → b ≤ c → plus (b - a) (plus (c - b) o) ≡ plus (c - a) o
 span a b c o h l =
@@ -46,7 +47,7 @@ module _ (is : ℕ → Bool) (opens : ℕ → List ℕ → Bool) where
   kids-first : (n k : ℕ) (w : List ℕ) (c b : ℕ) → k < length w → First is c b → b < 256
       → kids is opens n k w c ≡ then (tree is opens n (n - suc k) (take (suc k) (set w k b))) (kids is opens n k w (suc (getD (set w k b) k 0)))
   kids-first n k w c b h f m =
-      rw (upTo-from is _ 256 c b (f .low) (omega arith) (f .gap), upTo-take is _ 256 b m (f .hit m))
+      rw (rising-from is _ 256 c b (f .low) (omega arith) (f .gap), rising-take is _ 256 b m (f .hit m))
       (rw (take-suc-set w k b h, getD-set-same w k b 0 h))
 
   -- to the first child from c on, where so much of the prefix of k bytes is done
@@ -94,7 +95,7 @@ module _ (is : ℕ → Bool) (opens : ℕ → List ℕ → Bool) where
   -- open, and there are no letters
   pub stuck-step : (n k : ℕ) (w s : List ℕ) (t b : ℕ) → At is opens n k w s t → k < n → opens n (take k w) ≡ true → First is 0 b → 256 ≤ b → Done is opens n k w s (t + 1)
   stuck-step n k w s t b a h e f m =
-      ends n k w s t 1 a (tree-open is opens n k (take k w) h e ∙ ap (plus 1) (upTo-from is _ 256 0 256 (omega arith) (omega arith) (λ x l g. f .gap x (omega arith) g) ∙ upTo-end is _ 256 256 (omega arith)))
+      ends n k w s t 1 a (tree-open is opens n k (take k w) h e ∙ ap (plus 1) (rising-from is _ 256 0 256 (omega arith) (omega arith) (λ x l g. f .gap x (omega arith) g) ∙ rising-end is _ 256 256 (omega arith)))
 
   -- a child is done: the next
   pub next-step : (n k : ℕ) (w s : List ℕ) (t b : ℕ) → Done is opens n (suc k) w s t → k < length w → suc k < length s → First is (suc (getD w k 0)) b → b < 256
@@ -119,7 +120,7 @@ module _ (is : ℕ → Bool) (opens : ℕ → List ℕ → Bool) where
         parts = before n k w s (d .parts);
         mark = omega arith;
         gone = behind n k w s t d
-            ∙ rw (upTo-from is _ 256 (suc (getD w k 0)) 256 y (omega arith) (λ x l g. f .gap x (omega arith) g), upTo-end is _ 256 256 (omega arith), add-zero);
+            ∙ rw (rising-from is _ 256 (suc (getD w k 0)) 256 y (omega arith) (λ x l g. f .gap x (omega arith) g), rising-end is _ 256 256 (omega arith), add-zero);
       }
 
   -- ---- what the parts say of the whole length

@@ -4,7 +4,7 @@ use Prim.Native.Nat.{ℕ, zero, suc, _+_, _-_, _*_, _≤_, _<_}
 use mathlib.Core.Bool.{Bool}
 use mathlib.Core.List.{List, [], _∷_, _++_}
 use lib.ListN.{take, getD}
-use Rattle.paper.specs.Walk.{Walked, none, plus, then, count, upTo, tree}
+use Rattle.paper.specs.Walk.{Walked, none, plus, then, count, rising, tree}
 use Rattle.state.specs.declared.State.{State}
 
 -- bytes that no judgement tells apart: wherever the one stands in a prefix, the other is as good
@@ -18,7 +18,7 @@ Classes opens slot = (b c : ℕ) → b < 256 → c < 256 → 0 < getD slot b 0 �
 module _ (is : ℕ → Bool) (opens : ℕ → List ℕ → Bool) where
   -- the walk of the prefix of k bytes with one letter more, from the letter c on
   abbrev pub kids : (n k : ℕ) → List ℕ → ℕ → Walked
-  kids n k w c = upTo is (λ b. tree is opens n (n - suc k) (take k w ++ (b ∷ []))) 256 c
+  kids n k w c = rising is (λ b. tree is opens n (n - suc k) (take k w ++ (b ∷ []))) 256 c
 
   -- of the walk of the prefix of j bytes: begun at trial a; its child at hand begun at trial b; that child and the later ones are left
   pub record Part (n j : ℕ) (w : List ℕ) (a b : ℕ) : Type 0 where

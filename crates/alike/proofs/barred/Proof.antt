@@ -1,4 +1,3 @@
--- `alike::barred` meets its contract.
 use Rattle.alike.proofs.Giving.{text-barred}
 use borrow.Author.Needs.{needs}
 use Rattle.alike.proofs.barred.Statement.{statement}

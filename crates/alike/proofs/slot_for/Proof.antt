@@ -1,4 +1,3 @@
--- `alike::slot_for` meets its contract.
 use native.Mathlib.Omega.{arith}
 use borrow.Author.Needs.{needs}
 use Rattle.alike.proofs.slot_for.Statement.{statement}

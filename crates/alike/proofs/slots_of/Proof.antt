@@ -1,4 +1,3 @@
--- `alike::slots_of` meets its contract.
 use Rattle.paper.specs.Sheet.{sheetOf}
 use Rattle.paper.specs.Opens.{opens}
 use mathlib.Core.Path.{refl, sym, _∙_}

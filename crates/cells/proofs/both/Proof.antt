@@ -1,4 +1,3 @@
--- `chart::splits::both` meets its contract.
 use mathlib.Core.Path.{_≡_, refl, sym, ap, _∙_}
 use borrow.Author.Needs.{needs}
 use Rattle.cells.specs.Steps.{both}

@@ -1,4 +1,3 @@
--- `chart::splits::put` meets its contract.
 use mathlib.Core.Path.{_≡_, refl, sym, ap, _∙_, subst}
 use mathlib.Core.Bool.{false}
 use native.Mathlib.Omega.{arith}

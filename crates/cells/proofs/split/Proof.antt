@@ -1,4 +1,3 @@
--- `chart::splits::split` meets its contract.
 use mathlib.Core.Path.{_≡_, refl, sym, ap, _∙_, subst}
 use lib.ListN.{getD}
 use borrow.Author.Needs.{needs}

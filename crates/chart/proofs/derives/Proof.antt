@@ -1,4 +1,3 @@
--- `chart::derives` meets its contract.
 use mathlib.Core.Path.{_∙_, ap}
 use borrow.Author.Needs.{needs}
 use Rattle.table.specs.Bits.{bitAt}

@@ -1,4 +1,3 @@
--- `groundwork::closures` meets its contract.
 use mathlib.Core.Path.{_∙_}
 use native.Mathlib.Omega.{arith}
 use Rattle.rows.proofs.ByKind.{rows-few, rows-all}

@@ -1,4 +1,3 @@
--- `groundwork::holds_letter` meets its contract.
 use Rattle.groundwork.proofs.ByKind.{range-letter, other-letter}
 use Rattle.groundwork.proofs.holds_letter.Statement.{statement}
 use Rattle.groundwork.proofs.holds_letter.Tie as tie

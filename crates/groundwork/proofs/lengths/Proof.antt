@@ -1,4 +1,3 @@
--- `groundwork::lengths` meets its contract.
 use Prim.Native.Nat.{ℕ, _-_, _≤_}
 use mathlib.Core.Path.{subst}
 use native.Mathlib.Nat.{not-suc-le-zero}

@@ -1,4 +1,3 @@
--- `groundwork::pair` meets its contract.
 use native.Mathlib.Omega.{arith}
 use Rattle.groundwork.proofs.ByKind.{paired-seq, paired-star, paired-none}
 use borrow.Author.Needs.{needs}

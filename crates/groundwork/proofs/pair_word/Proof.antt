@@ -1,4 +1,3 @@
--- `groundwork::pair_word` meets its contract.
 use mathlib.Core.Path.{refl}
 use Rattle.groundwork.specs.Ground.{pairWord}
 use borrow.Author.Needs.{needs}

@@ -1,4 +1,3 @@
--- `groundwork::put` meets its contract.
 use mathlib.Core.Path.{refl}
 use Rattle.groundwork.specs.Laying.{putBit}
 use borrow.Author.Needs.{needs}

@@ -1,4 +1,3 @@
--- `groundwork::tell_length` meets its contract.
 use Rattle.groundwork.proofs.ByKind.{told-other, told-long, told-text}
 use borrow.Author.Needs.{needs}
 use Rattle.groundwork.proofs.tell_length.Statement.{statement}

@@ -1,4 +1,3 @@
--- `groundwork::texts` meets its contract.
 use Prim.Native.Nat.{ℕ, _-_, _≤_}
 use mathlib.Core.Path.{_∙_, subst}
 use native.Mathlib.Omega.{arith}

@@ -1,4 +1,3 @@
--- `groundwork::wipe_texts` meets its contract.
 use Rattle.groundwork.proofs.Laying.{texts-wiped}
 use borrow.Author.Needs.{needs}
 use Rattle.groundwork.proofs.wipe_texts.Statement.{statement}

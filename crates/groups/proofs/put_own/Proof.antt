@@ -1,4 +1,3 @@
--- `groups::put_own` meets its contract.
 use mathlib.Core.Path.{sym, ap}
 use native.Mathlib.Omega.{arith}
 use borrow.Author.Needs.{needs}

@@ -1,4 +1,3 @@
--- `maker::put_ending` meets its contract.
 use borrow.Author.Needs.{needs}
 use native.Mathlib.Omega.{arith}
 use Rattle.paper.specs.Bytes.{u16, u32}

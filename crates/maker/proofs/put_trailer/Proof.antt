@@ -1,4 +1,3 @@
--- `maker::put_trailer` meets its contract.
 use borrow.Author.Needs.{needs}
 use Prim.Native.Nat.{_+_}
 use native.Mathlib.Omega.{arith}

@@ -1,4 +1,3 @@
--- `records::bad_table` meets its contract.
 use Prim.Native.Nat.{_-_}
 use mathlib.Core.Bool.{true, false}
 use mathlib.Core.Path.{_≡_, sym, _∙_}

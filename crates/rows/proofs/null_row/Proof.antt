@@ -1,4 +1,3 @@
--- `rows::null_row` meets its contract.
 use mathlib.Core.Logic.{⊎-elim, inl, inr}
 use native.Mathlib.Omega.{arith}
 use borrow.Author.Needs.{needs}

@@ -1,4 +1,3 @@
--- `rows::pass_on` meets its contract.
 use borrow.Author.Needs.{needs}
 use mathlib.Core.Path.{_∙_}
 use Rattle.table.proofs.Room.{grows-not}

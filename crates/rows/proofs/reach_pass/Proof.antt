@@ -1,4 +1,3 @@
--- `rows::reach_pass` meets its contract.
 use mathlib.Core.Path.{_≡_, _∙_}
 use mathlib.Core.Logic.{⊎-elim}
 use Prim.Native.Nat.{_-_, _≤_}

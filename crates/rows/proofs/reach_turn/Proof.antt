@@ -1,4 +1,3 @@
--- `rows::reach_turn` meets its contract.
 use borrow.Author.Needs.{needs}
 use native.Mathlib.Omega.{arith}
 use Rattle.rows.proofs.ByKind.{rows-few, rows-all, children}

@@ -1,4 +1,3 @@
--- `rows::turn_of` meets its contract.
 use borrow.Author.Needs.{needs}
 use native.Mathlib.Omega.{arith}
 use Rattle.rows.proofs.turn_of.Statement.{statement}

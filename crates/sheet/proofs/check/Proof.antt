@@ -1,4 +1,3 @@
--- `sheet::check` meets its contract.
 use borrow.Author.Tests.{le-leb, lt-leb, not-true, not-false}
 use borrow.Author.Needs.{needs}
 use Rattle.paper.specs.Refusals.{refusal}

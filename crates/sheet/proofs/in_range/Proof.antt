@@ -1,4 +1,3 @@
--- `sheet::in_range` meets its contract.
 use borrow.Author.Tests.{le-leb, lt-leb}
 use borrow.Author.Needs.{needs}
 use Rattle.sheet.proofs.in_range.Statement.{statement}

@@ -1,4 +1,3 @@
--- `sheet::text_of` meets its contract.
 use Prim.Native.Nat.{_≤_}
 use lib.ListN.{length}
 use native.Mathlib.Nat.{add-sub-cancel-left}

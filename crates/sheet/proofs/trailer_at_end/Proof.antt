@@ -1,4 +1,3 @@
--- `sheet::trailer_at_end` meets its contract.
 use borrow.Author.Needs.{needs}
 use Rattle.sheet.specs.Readers.{trailerOf}
 use Rattle.sheet.proofs.trailer_at_end.Statement.{statement}

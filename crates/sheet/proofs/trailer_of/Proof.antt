@@ -1,4 +1,3 @@
--- `sheet::trailer_of` meets its contract.
 use borrow.Author.Needs.{needs}
 use Rattle.sheet.proofs.Good.{good}
 use Rattle.sheet.proofs.trailer_of.Statement.{statement}

@@ -1,4 +1,3 @@
--- `table::none` meets its contract.
 use mathlib.Core.Path.{refl}
 use borrow.Author.Needs.{needs}
 use Rattle.table.specs.Bits.{noneAt}

@@ -1,4 +1,3 @@
--- `table::set` meets its contract.
 use borrow.Author.Needs.{needs}
 use Rattle.table.proofs.Bits.{set-is}
 use Rattle.table.proofs.set.Statement.{statement}

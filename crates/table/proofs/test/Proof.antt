@@ -1,4 +1,3 @@
--- `table::test` meets its contract.
 use borrow.Author.Needs.{needs}
 use Rattle.table.proofs.Bits.{test-is}
 use Rattle.table.proofs.test.Statement.{statement}

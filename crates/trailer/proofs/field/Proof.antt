@@ -1,4 +1,3 @@
--- `trailer::field` meets its contract.
 use borrow.Author.Needs.{needs}
 use Rattle.paper.specs.Trailer.{field, base}
 use Rattle.trailer.proofs.field.Statement.{statement}

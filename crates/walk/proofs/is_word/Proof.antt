@@ -1,4 +1,3 @@
--- `is_word` meets its contract.
 use mathlib.Core.Path.{_∙_, sym}
 use mathlib.Core.Bool.{true≢false, false≢true}
 use borrow.Author.Tests.{eqb-true, eqb-false}

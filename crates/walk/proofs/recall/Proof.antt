@@ -1,4 +1,3 @@
--- `recall` meets its contract.
 use mathlib.Core.Path.{_∙_}
 use native.Mathlib.Omega.{arith}
 use borrow.Author.Needs.{needs}

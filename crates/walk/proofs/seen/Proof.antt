@@ -1,4 +1,3 @@
--- `seen` meets its contract.
 use borrow.Author.Tests.{eq-eqb, ne-eqb}
 use Rattle.walk.specs.Counts.{seenAt}
 use borrow.Author.Needs.{needs}

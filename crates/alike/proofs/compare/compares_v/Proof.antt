@@ -1,4 +1,3 @@
--- `alike::compare::compares_v` meets its contract.
 use mathlib.Core.Path.{sym, _∙_}
 use Rattle.alike.proofs.Comparing.{compares-not, compares-equals}
 use borrow.Author.Needs.{needs}

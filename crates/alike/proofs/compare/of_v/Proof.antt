@@ -1,4 +1,3 @@
--- `alike::compare::of_v` meets its contract.
 use mathlib.Core.Path.{sym, ap, _∙_}
 use Rattle.paper.specs.Sheet.{partAt}
 use Rattle.sheet.proofs.Contents.{part-here}

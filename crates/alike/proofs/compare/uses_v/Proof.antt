@@ -1,4 +1,3 @@
--- `alike::compare::uses_v` meets its contract.
 use Rattle.sheet.proofs.Good.{good}
 use mathlib.Core.Path.{_≡_, sym, ap, _∙_}
 use mathlib.Core.Bool.{false}

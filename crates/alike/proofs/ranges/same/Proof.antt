@@ -1,4 +1,3 @@
--- `alike::ranges::same` meets its contract.
 use mathlib.Core.Path.{sym}
 use mathlib.Core.Bool.{true≢false}
 use borrow.Author.Tests.{eqb-true}

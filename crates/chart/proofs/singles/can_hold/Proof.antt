@@ -1,4 +1,3 @@
--- `chart::singles::can_hold` meets its contract.
 use borrow.Author.Needs.{needs}
 use borrow.Author.Tests.{lt-ltb, le-ltb}
 use Rattle.chart.specs.Cells.{canHold}

@@ -1,4 +1,3 @@
--- `chart::singles::has_length` meets its contract.
 use borrow.Author.Needs.{needs}
 use lib.Bits.{and-mask}
 use Rattle.table.specs.Bits.{bit}

@@ -1,4 +1,3 @@
--- `chart::singles::singles` meets its contract.
 use mathlib.Core.Path.{_≡_, refl, sym, ap, _∙_}
 use native.Mathlib.Omega.{arith}
 use lib.ListN.{getD}

@@ -36,20 +36,20 @@ loop-holds : tie.Need-loop-holds Inv-loop μ-loop
 loop-holds c =
     (omega arith, sym (turn-none _ _), refl)
 
-add-choice-at : tie.Need-add-choice-at Inv-loop μ-loop
-add-choice-at c =
+add-option-at : tie.Need-add-option-at Inv-loop μ-loop
+add-option-at c =
     omega (arith, inside (c .before .before .before .before .before .before .before))
 
-mul-choice-at : tie.Need-mul-choice-at Inv-loop μ-loop
-mul-choice-at c =
+mul-option-at : tie.Need-mul-option-at Inv-loop μ-loop
+mul-option-at c =
     omega (arith, inside (c .before .before .before .before .before .before .before), c .before .before .u32-at .ensures .0)
 
-add-choice-at-2 : tie.Need-add-choice-at-2 Inv-loop μ-loop
-add-choice-at-2 c =
+add-option-at-2 : tie.Need-add-option-at-2 Inv-loop μ-loop
+add-option-at-2 c =
     omega (arith, inside (c .before .before .before .before .before .before .before), c .before .before .u32-at .ensures .0)
 
-choice-at-requires : tie.Need-choice-at-requires Inv-loop μ-loop
-choice-at-requires c κs =
+option-at-requires : tie.Need-option-at-requires Inv-loop μ-loop
+option-at-requires c κs =
     omega (arith, inside (c .before .before .before .before .before .before .before), c .before .before .u32-at .ensures .0)
 
 mark-option-requires : tie.Need-mark-option-requires Inv-loop μ-loop
@@ -58,7 +58,7 @@ mark-option-requires c κs =
     let w = c .before .before .before .before .before .before .before .before .before .pre .0 .formed in
     let z : c .before .before .before .loop .j < optionCount (a .list .now) (a .o) = omega (arith, c .before .before .before .before .u32-at .ensures .0) in
     let t = formed (a .list .now) (length (a .text .now)) w .trailer in
-    (subst (λ x. Obeys (length (a .text .now)) 256 (a .m) x) (sym (c .before .choice-at .ensures)) (option-inside _ _ w _ _ _ (c .before .before .before .before .before .before .before .before .before .pre .1) (c .before .before .before .before .before .before .before .before .before .pre .2) (c .before .before .before .before .before .before .before .before .before .pre .3) _ z), omega (arith, c .before .before .before .before .before .before .before .before .before .pre .0 .fit), omega (arith, c .before .before .before .before .before .before .before .before .before .pre .0 .fit, t .most), omega (arith, c .before .before .before .loop .inv .2, c .before .before .before .before .before .before .before .before .before .pre .0 .room), omega (arith, t .few))
+    (subst (λ x. Obeys (length (a .text .now)) 256 (a .m) x) (sym (c .before .option-at .ensures)) (option-inside _ _ w _ _ _ (c .before .before .before .before .before .before .before .before .before .pre .1) (c .before .before .before .before .before .before .before .before .before .pre .2) (c .before .before .before .before .before .before .before .before .before .pre .3) _ z), omega (arith, c .before .before .before .before .before .before .before .before .before .pre .0 .fit), omega (arith, c .before .before .before .before .before .before .before .before .before .pre .0 .fit, t .most), omega (arith, c .before .before .before .loop .inv .2, c .before .before .before .before .before .before .before .before .before .pre .0 .room), omega (arith, t .few))
 
 add-j : tie.Need-add-j Inv-loop μ-loop
 add-j c =
@@ -73,7 +73,7 @@ loop-again c =
     let a = c .before .before .before .before .before .before .before .before .before .before .before .before .args in
     let t = c .before .before .mark-option in
     let l = c .before .before .before .before .before .before .loop in
-    (omega arith, t .ensures ∙ ap (λ v. markOption (a .text .now) (a .word .now) (a .m) (a .r) (optionOf (c .before .before .before .before .choice-at .result)) v) (l .inv .1) ∙ mark-at _ _ _ _ _ _ (c .before .before .before .before .before .before .before .before .before .before .before .before .pre .3) _ _ _ (c .before .before .before .before .choice-at .ensures) ∙ sym (turn-more _ _ _), t .kept .1 .1 .0 ∙ l .inv .2)
+    (omega arith, t .ensures ∙ ap (λ v. markOption (a .text .now) (a .word .now) (a .m) (a .r) (optionOf (c .before .before .before .before .option-at .result)) v) (l .inv .1) ∙ mark-at _ _ _ _ _ _ (c .before .before .before .before .before .before .before .before .before .before .before .before .pre .3) _ _ _ (c .before .before .before .before .option-at .ensures) ∙ sym (turn-more _ _ _), t .kept .1 .1 .0 ∙ l .inv .2)
 
 add-result : tie.Need-add-result Inv-loop μ-loop
 add-result c =
@@ -105,10 +105,10 @@ mark-head-spec =
     add-u32-at
     u32-at-requires
     loop-holds
-    add-choice-at
-    mul-choice-at
-    add-choice-at-2
-    choice-at-requires
+    add-option-at
+    mul-option-at
+    add-option-at-2
+    option-at-requires
     mark-option-requires
     add-j
     loop-less

@@ -1,4 +1,3 @@
--- `groups::bytes::put_mark` meets its contract.
 use Rattle.groups.specs.Parts.{mark}
 use Rattle.groups.proofs.Stores.{put-more}
 use borrow.Author.Needs.{needs}

@@ -1,4 +1,3 @@
--- `groups::bytes::put_option` meets its contract.
 use native.Mathlib.Omega.{arith}
 use Rattle.paper.specs.Bytes.{u16}
 use Rattle.groups.specs.Parts.{optionFields}

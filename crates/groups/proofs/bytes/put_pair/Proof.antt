@@ -1,4 +1,3 @@
--- `groups::bytes::put_pair` meets its contract.
 use native.Mathlib.Omega.{arith}
 use lib.ListN.{length-set}
 use Rattle.groups.proofs.Stores.{put-pair}

@@ -1,4 +1,3 @@
--- `groups::bytes::put_u16` meets its contract.
 use Rattle.paper.specs.Bytes.{u16}
 use borrow.Author.Needs.{needs}
 use Rattle.groups.proofs.bytes.put_u16.Statement.{statement}

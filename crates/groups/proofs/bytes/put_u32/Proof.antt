@@ -1,4 +1,3 @@
--- `groups::bytes::put_u32` meets its contract.
 use native.Mathlib.Omega.{arith}
 use Rattle.paper.specs.Bytes.{u16, u32}
 use Rattle.groups.proofs.Stores.{put-more}

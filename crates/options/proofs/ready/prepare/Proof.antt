@@ -1,4 +1,3 @@
--- `options::ready::prepare` meets its contract.
 use borrow.Author.Needs.{needs}
 use Rattle.paper.specs.Sheet.{grammarOf}
 use Rattle.options.proofs.Turns.{job-rows}

@@ -1,4 +1,3 @@
--- `options::ready::put_row` meets its contract.
 use borrow.Author.Needs.{needs}
 use Rattle.options.proofs.ready.put_row.Statement.{statement}
 use Rattle.options.proofs.ready.put_row.Tie as tie

@@ -1,4 +1,3 @@
--- `options::sizes::own_count` meets its contract.
 use mathlib.Core.Path.{ap}
 use native.Mathlib.Omega.{arith}
 use lib.ListN.{length}

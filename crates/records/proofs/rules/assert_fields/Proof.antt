@@ -1,4 +1,3 @@
--- `records::rules::assert_fields` meets its contract.
 use native.Mathlib.Omega.{arith}
 use borrow.Author.Needs.{needs}
 use borrow.Author.Tests.{ne-eqb, lt-ltb, le-ltb}

@@ -1,4 +1,3 @@
--- `records::rules::assert_ok` meets its contract.
 use borrow.Author.Tests.{ne-eqb, le-leb, lt-leb}
 use borrow.Author.Needs.{needs}
 use Rattle.paper.specs.Records.{assertOk}

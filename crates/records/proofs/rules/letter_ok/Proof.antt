@@ -1,4 +1,3 @@
--- `records::rules::letter_ok` meets its contract.
 use mathlib.Core.Path.{refl}
 use borrow.Author.Needs.{needs}
 use Rattle.paper.specs.Records.{letterOk}

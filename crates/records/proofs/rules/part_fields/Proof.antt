@@ -1,4 +1,3 @@
--- `records::rules::part_fields` meets its contract.
 use native.Mathlib.Omega.{arith}
 use borrow.Author.Tests.{ne-eqb}
 use borrow.Author.Needs.{needs}

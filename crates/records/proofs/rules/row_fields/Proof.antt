@@ -1,4 +1,3 @@
--- `records::rules::row_fields` meets its contract.
 use Prim.Native.Nat.{_≤_}
 use mathlib.Core.Path.{_≡_}
 use native.Mathlib.Omega.{arith}

@@ -1,4 +1,3 @@
--- `records::terms::part_len` meets its contract.
 use borrow.Author.Tests.{ne-eqb}
 use borrow.Author.Needs.{needs}
 use Rattle.paper.specs.Records.{partLen}

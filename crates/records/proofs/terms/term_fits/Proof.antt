@@ -1,4 +1,3 @@
--- `records::terms::term_fits` meets its contract.
 use Prim.Native.Nat.{ℕ}
 use mathlib.Core.Path.{ap}
 use lib.Dec.{leb}

@@ -1,4 +1,3 @@
--- `Letters::has` meets its contract.
 use Rattle.state.specs.Letters.{hasLetter}
 use borrow.Author.Needs.{needs}
 use Rattle.state.proofs.Letters.has.Statement.{statement}

@@ -4,8 +4,8 @@ use Rattle.list.proofs.OptionLaws.{nil-kind}
 use Rattle.paper.specs.Bytes.{u8At}
 use Rattle.paper.specs.Gate.{optOf}
 use borrow.Author.Needs.{needs}
-use Rattle.list.proofs.fields.choice_at.Statement.{statement}
-use Rattle.list.proofs.fields.choice_at.Tie as tie
+use Rattle.list.proofs.fields.option_at.Statement.{statement}
+use Rattle.list.proofs.fields.option_at.Tie as tie
 
 fields-at-requires : tie.Need-fields-at-requires
 fields-at-requires c κs = search needs
@@ -35,6 +35,6 @@ returns-5 c =
     let h : 4 ≤ u8At (c .before .before .before .args .list .now) (c .before .before .before .args .o) = omega (arith, c .before .fields-at .ensures .kind-is) in
     rw (nil-kind _ _ h)
 
-pub choice-at-spec : {M : Type 1} → statement M
-choice-at-spec =
+pub option-at-spec : {M : Type 1} → statement M
+option-at-spec =
     tie.close (tie.spec fields-at-requires returns returns-2 returns-3 returns-4 returns-5)
