@@ -24,23 +24,13 @@ pub struct Sought {
     pub trials: u64,
 }
 
-pub fn spent(budget: u64) -> Sought
-    ensures { λ r. ⌜ (r .number ≡ 2) × (r .prefix .len ≡ 0) × (r .trials ≡ budget) ⌝ }
+// An end with no word: none, 1, or spent, 2.
+fn wordless(number: u8, trials: u64) -> Sought
+    ensures { λ r. ⌜ (r .number ≡ number) × (r .prefix .len ≡ 0) × (r .trials ≡ trials) ⌝ }
 {
     let prefix = state::Prefix::empty();
     Sought {
-        number: 2,
-        prefix,
-        trials: budget,
-    }
-}
-
-pub fn none(trials: u64) -> Sought
-    ensures { λ r. ⌜ (r .number ≡ 1) × (r .prefix .len ≡ 0) × (r .trials ≡ trials) ⌝ }
-{
-    let prefix = state::Prefix::empty();
-    Sought {
-        number: 1,
+        number,
         prefix,
         trials,
     }
@@ -83,15 +73,15 @@ pub fn seek(
         }
         q = walk::advance(letters, slot, budget, n, ok, q, &mut counts);
         if q.over {
-            return spent(budget);
+            return wordless(2, budget);
         }
         if q.prefix.len == 0 {
             if n == hi {
-                return none(q.trials);
+                return wordless(1, q.trials);
             }
             n += 1;
             q = q.again();
         }
     }
-    spent(budget)
+    wordless(2, budget)
 }

@@ -16,8 +16,7 @@ use Rattle.search.proofs.seek.Tie as tie
 use Rattle.search.proofs.seek.Reads as reads
 use Rattle.search.proofs.seek.Lts as lts
 use Rattle.search.proofs.judged.Reads as judged-reads
-use Rattle.search.proofs.none.Reads as none-reads
-use Rattle.search.proofs.spent.Reads as spent-reads
+use Rattle.search.proofs.wordless.Reads as wordless-reads
 use Rattle.state.proofs.State.again.Reads as again-reads
 use Rattle.state.proofs.State.start.Reads as start-reads
 use Rattle.walk.proofs.advance.Reads as advance-reads
@@ -71,28 +70,28 @@ advance-requires c κs =
     let i = c .before .before .before .before .before .before .before .before .before .before .before .before .loop .inv .0 in
     (omega (arith, i .range, i .top), i .within, (λ o. omega (arith, i .within, w .short (c .before .if2 .left) o)), c .before .before .before .before .before .before .before .before .before .before .if1 .taken, i .fine, seek-marks _ _ _ _ _ _ _ _ _ i, c .before .before .before .before .before .before .before .before .before .before .before .before .before .before .before .before .before .pre .5, omega (arith, c .before .before .before .before .before .before .before .before .before .before .before .before .loop .inv .1))
 
-spent-requires : tie.Need-spent-requires Inv-loop μ-loop
-spent-requires c κs = tt
+wordless-requires : tie.Need-wordless-requires Inv-loop μ-loop
+wordless-requires c κs = tt
 
 same-length-2 : tie.Need-same-length-2 Inv-loop μ-loop
 same-length-2 c = (within-then _ _ _ (c .before .before .before .before .before .before .before .before .before .before .before .before .before .before .before .before .loop .inv .2) (c .before .before .before .before .before .before .before .before .before .judged .ensures .1)) .long
 
 returns-2 : tie.Need-returns-2 Inv-loop μ-loop
 returns-2 c = (
-  tells-spent _ _ (c .spent .result) _ (search needs) (c .spent .ensures)
+  tells-spent _ _ (c .wordless .result) _ (search needs) (c .wordless .ensures)
       (seek-over _ _ _ _ _ _ _ _ _ (c .before .before .before .before .before .before .before .before .before .before .before .before .before .before .before .before .loop .inv .0) (c .before .before .before .before .before .before .before .before .before .before .before .before .before .before .before .before .before .before .before .before .before .pre .4) _ (c .before .before .before .advance .result) _ (c .before .before .before .advance .ensures) (sym (c .before .before .before .before .before .before .before .before .before .judged .ensures .0)) (c .before .if3 .taken)),
   within-then _ _ _ (c .before .before .before .before .before .before .before .before .before .before .before .before .before .before .before .before .loop .inv .2) (c .before .before .before .before .before .before .before .before .before .judged .ensures .1),
 )
 
-none-requires : tie.Need-none-requires Inv-loop μ-loop
-none-requires c κs = tt
+wordless-requires-2 : tie.Need-wordless-requires-2 Inv-loop μ-loop
+wordless-requires-2 c κs = tt
 
 same-length-3 : tie.Need-same-length-3 Inv-loop μ-loop
 same-length-3 c = (within-then _ _ _ (c .before .before .before .before .before .before .before .before .before .before .before .before .before .before .before .before .before .before .before .loop .inv .2) (c .before .before .before .before .before .before .before .before .before .before .before .before .judged .ensures .1)) .long
 
 returns-3 : tie.Need-returns-3 Inv-loop μ-loop
 returns-3 c = (
-  tells-none _ _ (c .none .result) _ (search needs) (c .none .ensures)
+  tells-none _ _ (c .wordless2 .result) _ (search needs) (c .wordless2 .ensures)
       (seek-none _ _ _ _ _ _ _ _ _ (c .before .before .before .before .before .before .before .before .before .before .before .before .before .before .before .before .before .before .before .loop .inv .0) (c .before .before .before .before .before .before .before .before .before .before .before .before .before .before .before .before .before .before .before .before .before .before .before .before .pre .4) _ (c .before .before .before .before .before .before .advance .result) _ (c .before .before .before .before .before .before .advance .ensures) (sym (c .before .before .before .before .before .before .before .before .before .before .before .before .judged .ensures .0)) (c .before .before .before .before .if3 .left) (c .before .before .if4 .taken) (c .before .if5 .taken)),
   within-then _ _ _ (c .before .before .before .before .before .before .before .before .before .before .before .before .before .before .before .before .before .before .before .loop .inv .2) (c .before .before .before .before .before .before .before .before .before .before .before .before .judged .ensures .1),
 )
@@ -123,14 +122,14 @@ loop-again-2 c = (
   within-then _ _ _ (c .before .before .before .before .before .before .before .before .before .before .before .before .before .before .before .before .before .loop .inv .2) (c .before .before .before .before .before .before .before .before .before .before .judged .ensures .1),
 )
 
-spent-requires-2 : tie.Need-spent-requires-2 Inv-loop μ-loop
-spent-requires-2 c κs = tt
+wordless-requires-3 : tie.Need-wordless-requires-3 Inv-loop μ-loop
+wordless-requires-3 c κs = tt
 
 same-length-4 : tie.Need-same-length-4 Inv-loop μ-loop
 same-length-4 c = c .before .before .before .loop .inv .2 .long
 
 returns-4 : tie.Need-returns-4 Inv-loop μ-loop
-returns-4 c = (tells-spent _ _ (c .spent2 .result) _ (search needs) (c .spent2 .ensures) (seek-spent _ _ _ _ _ _ _ _ _ (c .before .before .before .loop .inv .0) (c .before .if1 .left)), c .before .before .before .loop .inv .2)
+returns-4 c = (tells-spent _ _ (c .wordless3 .result) _ (search needs) (c .wordless3 .ensures) (seek-spent _ _ _ _ _ _ _ _ _ (c .before .before .before .loop .inv .0) (c .before .if1 .left)), c .before .before .before .loop .inv .2)
 
 pub seek-spec : {M : Type 1} → statement M
 seek-spec =
@@ -148,10 +147,10 @@ seek-spec =
     returns
     slice-aggregate-advance
     advance-requires
-    spent-requires
+    wordless-requires
     same-length-2
     returns-2
-    none-requires
+    wordless-requires-2
     same-length-3
     returns-3
     add-n
@@ -160,6 +159,6 @@ seek-spec =
     loop-again
     loop-less-2
     loop-again-2
-    spent-requires-2
+    wordless-requires-3
     same-length-4
     returns-4)
