@@ -11,29 +11,21 @@ use compare::program::line;
 use compare::sheet::{read_u16, Sheet, TABLES};
 use compare::solve::{solve, WORK};
 
-const ANSWERS: [(&str, &str); 12] = [
-    ("digits2-none", "none 524"),
-    ("digits3-none", "none 4225"),
-    ("digits4-none", "none 41226"),
-    ("list8-found", "found 5 403 4252323539"),
-    ("list8-found-back", "none 542"),
-    ("list8-none", "none 579"),
-    ("list32-found", "found 5 251 4252313437"),
-    ("list32-none", "none 1578"),
-    ("suffixZ12-found", "found 6 64 4c444e2d415a"),
-    ("suffixZ30-found", "found 6 64 4c444e2d415a"),
-    ("suffixZ60-found", "found 6 64 4c444e2d415a"),
-    ("hampi-fig2", "found 11 3910 27204f52202731273d2731"),
-];
-
-fn sheet(name: &str) -> Vec<u8> {
+fn kept(name: &str) -> Vec<u8> {
     let folder = PathBuf::from(env!("CARGO_MANIFEST_DIR")).join("../sheets");
-    fs::read(folder.join(format!("{name}.sheet"))).expect("a sheet of the folder")
+    fs::read(folder.join(name)).expect("a file of the folder")
 }
 
+fn sheet(name: &str) -> Vec<u8> {
+    kept(&format!("{name}.sheet"))
+}
+
+/// The lines that the proved program is held to.
 #[test]
-fn everyday_sheets() {
-    for (name, answer) in ANSWERS {
+fn answers() {
+    let lines = String::from_utf8(kept("answers")).expect("text");
+    assert!(lines.lines().count() > 20);
+    for (name, answer) in lines.lines().map(|line| line.split_once(' ').expect("a name and a line")) {
         let mut out = [0; 60];
         let solved = solve(&sheet(name), BUDGET, &mut [0; WORK], &mut out);
         assert_eq!(line(&solved, &out), answer, "{name}");
