@@ -25,7 +25,8 @@ fn sheet(name: &str) -> Vec<u8> {
 fn answers() {
     let lines = String::from_utf8(kept("answers")).expect("text");
     assert!(lines.lines().count() > 20);
-    for (name, answer) in lines.lines().map(|line| line.split_once(' ').expect("a name and a line")) {
+    for (name, answer) in lines.lines().map(|line| line.split_once(' ').expect("a name and a line"))
+    {
         let mut out = [0; 60];
         let solved = solve(&sheet(name), BUDGET, &mut [0; WORK], &mut out);
         assert_eq!(line(&solved, &out), answer, "{name}");
