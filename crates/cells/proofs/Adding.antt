@@ -3,7 +3,7 @@
 use Prim.Native.Nat.{ℕ, zero, suc, _+_, _*_, _≤_, _<_}
 use mathlib.Core.Path.{_≡_, refl, sym, ap, _∙_}
 use mathlib.Core.Logic.{_≢_}
-use mathlib.Core.Bool.{Bool, true, false, _&&_, _||_}
+use mathlib.Core.Bool.{Bool, true, false, _&&_, _||_, and-false}
 use mathlib.Core.List.{List}
 use native.Mathlib.Omega.{arith}
 use native.Mathlib.Decide.{ℕ-discrete}
@@ -12,7 +12,7 @@ use lib.ListN.{length, drop}
 use borrow.Author.Tests.{eq-eqb, ne-eqb}
 use Rattle.paper.specs.Answers.{words}
 use Rattle.paper.proofs.Tests.{or-assoc, or-false, or-right}
-use Rattle.table.specs.Bits.{bitAt, setBit, wiped, copied, joined}
+use Rattle.table.specs.Bits.{bitAt, setBit, putBit, wiped, copied, joined}
 use Rattle.table.proofs.Bits.{
   length-set-bit,
   set-bit-same,
@@ -48,6 +48,10 @@ kept-then sp a b c x y = record {
 }
 
 -- nothing passes: nothing is done
+pub only-off : (q r : ℕ) → only q false r ≡ false
+unfolding only
+only-off q r = and-false (eqb r q)
+
 pub adds-none : (sp : ℕ) (P : ℕ → Bool) (ws : List ℕ) → ((r : ℕ) → P r ≡ false) → Adds sp P ws ws
 adds-none sp P ws h = record { kept = kept-none sp ws; bits = λ r l. rw (h r) (sym (or-false (bitAt ws sp r))) }
 
@@ -88,17 +92,22 @@ module _ (ws : List ℕ) (sp : ℕ) (l : sp < 1891) where
     adds-joined room = record { kept = kept-joined; bits = λ r h. joined-bit ws sp from q room r }
 
   module _ (q : ℕ) (h : q < 256) where
-    pub kept-set : Kept sp ws (setBit ws sp q)
+    kept-set : Kept sp ws (setBit ws sp q)
     kept-set = record {
       long = length-set-bit ws sp q;
       apart = λ t r ne. set-bit-apart ws sp q t r ne h;
       rest = drop-set-bit ws sp q words (in-words sp l) h;
     }
 
-    pub adds-set : 4 * sp + 4 ≤ length ws → Adds sp (only q true) ws (setBit ws sp q)
+    adds-set : 4 * sp + 4 ≤ length ws → Adds sp (only q true) ws (setBit ws sp q)
     unfolding only
     adds-set room = record { kept = kept-set; bits = λ r m. go r (ℕ-discrete r q) }
       where
         go : (r : ℕ) → Dec (r ≡ q) → bitAt (setBit ws sp q) sp r ≡ (bitAt ws sp r || (eqb r q && true))
         go r (yes e) = rw (eq-eqb r q e) (rw e (set-bit-same ws sp q room h) ∙ sym (or-right (bitAt ws sp r) true refl))
         go r (no e) = rw (ne-eqb r q e) (set-bit-other ws sp q r e ∙ sym (or-false (bitAt ws sp r)))
+
+    pub adds-put : 4 * sp + 4 ≤ length ws → (on : Bool) → Adds sp (only q on) ws (putBit on ws sp q)
+    unfolding putBit
+    adds-put room true = adds-set room
+    adds-put room false = adds-none sp (only q false) ws (only-off q)

@@ -18,7 +18,7 @@ use Rattle.table.proofs.Bits.{none-bit}
 use Rattle.table.proofs.Spans.{span-inj}
 use Rattle.groundwork.specs.Ground.{pairsAt, countAt}
 use Rattle.cells.specs.Steps.{Kept, Adds, only, both, paired, parted}
-use Rattle.cells.proofs.Adding.{adds-none, adds-same, adds-then}
+use Rattle.cells.proofs.Adding.{only-off, adds-none, adds-same, adds-then}
 
 -- one number more, at the end
 pub any-more : (n : ℕ) (f : ℕ → Bool) → (anyBelow n f || f n) ≡ anyBelow (n + 1) f
@@ -35,10 +35,6 @@ any-same n f h e =
 pub any-fails : (n : ℕ) (f : ℕ → Bool) → ((k : ℕ) → k < n → f k ≡ false) → anyBelow n f ≡ false
 any-fails zero f h = any-none f
 any-fails (suc n) f h = rw (any-suc n f, h n (omega arith)) (any-fails n f (λ k l. h k (omega arith)))
-
-pub only-off : (q r : ℕ) → only q false r ≡ false
-unfolding only
-only-off q r = and-false (eqb r q)
 
 -- ---- the pairs at one split
 

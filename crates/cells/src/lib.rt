@@ -12,9 +12,7 @@ pub fn put(work: &mut [u64], sp: usize, q: usize, on: bool)
     requires { ⌜ (sp < 1891) × (q < 256) × (7564 ≤ length (now work)) ⌝ }
     ensures { λ _. ⌜ Adds sp (only q on) (now (work .entry)) (now (work .exit)) ⌝ }
 {
-    if on {
-        table::set(work, sp, q);
-    }
+    table::put(work, sp, q, on);
 }
 
 // Whether the pair x has its a in one span and its b in the other.

@@ -9,10 +9,10 @@ use native.Mathlib.Omega.{arith}
 use lib.ListN.{length, set, length-set}
 use lib.Seq.{getD-set-other}
 use borrow.Author.Tests.{le-ltb}
-use Rattle.table.specs.Bits.{bitAt, setBit, fourAt, wiped}
+use Rattle.table.specs.Bits.{putBit, bitAt, setBit, fourAt, wiped}
 use Rattle.table.proofs.Spans.{lt-or-le}
 use Rattle.table.proofs.Bits.{set-bit-same, set-bit-other, set-bit-apart}
-use Rattle.groundwork.specs.Laying.{Below, putBit}
+use Rattle.groundwork.specs.Laying.{Below}
 
 pub below-refl : {k : ℕ} (ws : List ℕ) → Below k ws ws
 below-refl ws = record { long = refl; same = λ i h. refl }

@@ -15,7 +15,7 @@ use Rattle.paper.proofs.Reaching.{outside}
 use Rattle.paper.specs.Rows.{Range, Text, Seq, Star, Grammar, row}
 use Rattle.paper.specs.Refusals.{refusal}
 use Rattle.paper.specs.Sheet.{Sheet, letter, textOf, grammarOf, sheetOf}
-use Rattle.table.specs.Bits.{bitAt, wiped, copied}
+use Rattle.table.specs.Bits.{putBit, bitAt, wiped, copied}
 use Rattle.table.proofs.Spans.{lt-or-le}
 use Rattle.table.proofs.Words.{of-four}
 use Rattle.table.proofs.Bits.{length-wiped, wiped-bit, wiped-apart, copied-bit, copied-apart}
@@ -27,7 +27,7 @@ use Rattle.sheet.proofs.Contents.{text-length}
 use Rattle.rows.specs.Sets.{Nulls, Reached, RowsAt}
 use Rattle.rows.proofs.ByKind.{rows-few, rows-all, children}
 use Rattle.groundwork.specs.Ground.{Ground, pairsAt, pairWord, Splits, someLetter}
-use Rattle.groundwork.specs.Laying.{Below, putBit, Closures, Ranges, textBit, NoTexts, Texts, Proper, PairOf, Paired, Pairs, LengthTold, Lengths}
+use Rattle.groundwork.specs.Laying.{Below, Closures, Ranges, textBit, NoTexts, Texts, Proper, PairOf, Paired, Pairs, LengthTold, Lengths}
 use Rattle.groundwork.proofs.Frame.{below-then, below-less, below-set, below-wiped, below-bit, put-same, put-other, put-apart}
 use Rattle.groundwork.proofs.ByKind.{no-row-letter, splits-which}
 

@@ -15,10 +15,6 @@ pub record Below (k : ℕ) (old now : List ℕ) : Type 0 where
   pub long : length now ≡ length old
   pub same : (i : ℕ) → i < k → getD now i 0 ≡ getD old i 0
 
--- the table with bit r of entry e set, where the test passed
-unfoldable pub putBit : Bool → List ℕ → (e r : ℕ) → List ℕ
-putBit on ws e r = cond on (setBit ws e r) ws
-
 -- entries 0 to 256
 pub record Closures (g : Grammar) (ws : List ℕ) : Type 0 where
   pub reached : (q r : ℕ) → q < length (g .rows) → bitAt ws q r ≡ reaches g r q

@@ -7,7 +7,7 @@ ghost use Rattle.paper.specs.Rows.{Range, rowOf};
 ghost use Rattle.paper.specs.Sheet.{textOf, grammarOf, sheetOf};
 ghost use Rattle.rows.specs.Sets.{RowsAt};
 ghost use Rattle.groundwork.specs.Ground.{Ground, someLetter, pairWord};
-ghost use Rattle.groundwork.specs.Laying.{Below, putBit, Closures, Ranges, NoTexts, Texts, Proper, Paired, Pairs, LengthTold, Lengths};
+ghost use Rattle.groundwork.specs.Laying.{Below, Closures, Ranges, NoTexts, Texts, Proper, Paired, Pairs, LengthTold, Lengths};
 
 // The rows that reach each row, and the rows that derive the empty word.
 fn closures(s: &[u8], at: usize, n: usize, out: &mut [u64])
@@ -18,16 +18,6 @@ fn closures(s: &[u8], at: usize, n: usize, out: &mut [u64])
     rows::nulls(s, at, n, &mut empty);
     rows::reach(s, at, n, &empty, out);
     table::copy(out, 256, &empty, 0);
-}
-
-// Row r into entry e, where the test passed.
-fn put(out: &mut [u64], e: usize, r: usize, on: bool)
-    requires { ⌜ (4 * e + 4 ≤ length (now out)) × (r < 256) ⌝ }
-    ensures { λ _. ⌜ now (out .exit) ≡ putBit on (now (out .entry)) e r ⌝ }
-{
-    if on {
-        table::set(out, e, r);
-    }
 }
 
 // Some byte from low to high is a letter.
@@ -67,7 +57,7 @@ fn ranges(s: &[u8], at: usize, n: usize, out: &mut [u64])
     while q < n {
         let f = sheet::row_at(s, at, q);
         let on = holds_letter(s, f);
-        put(out, 257, q, on);
+        table::put(out, 257, q, on);
         q += 1;
     }
 }
@@ -92,7 +82,7 @@ fn texts(s: &[u8], text: &[u8], out: &mut [u64])
     let mut k = 0;
     while k < text.len() {
         let on = sheet::is_letter(s, text[k]);
-        put(out, 258 + k / 256, k % 256, on);
+        table::put(out, 258 + k / 256, k % 256, on);
         k += 1;
     }
 }

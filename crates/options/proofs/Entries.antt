@@ -9,7 +9,7 @@ use lib.Dec.{eqb}
 use lib.ListN.{length}
 use Rattle.paper.specs.Rows.{Grammar, rowOf}
 use Rattle.paper.specs.Sheet.{grammarOf}
-use Rattle.table.specs.Bits.{setBit, wiped, copied}
+use Rattle.table.specs.Bits.{setBit, putBit, wiped, copied}
 use Rattle.table.proofs.Spans.{lt-or-le}
 use Rattle.table.proofs.Bits.{length-set-bit, set-bit-same, set-bit-other, set-bit-apart, length-wiped, wiped-bit, wiped-apart, copied-bit, copied-apart}
 use Rattle.sheet.specs.declared.Fields.{Fields}
@@ -20,7 +20,8 @@ use Rattle.options.specs.Prepared.{Entry, across, Turned, Given, Ready}
 
 module _ (e : ℕ) (f : ℕ → Bool) (old : List ℕ) (room : 4 * e + 4 ≤ length old) where
   -- row n joins where the test passes
-  entry-more : (n : ℕ) (now : List ℕ) (on : Bool) → n < 256 → on ≡ f n → Entry e n f old now → Entry e (n + 1) f old (cond on (setBit now e n) now)
+  entry-more : (n : ℕ) (now : List ℕ) (on : Bool) → n < 256 → on ≡ f n → Entry e n f old now → Entry e (n + 1) f old (putBit on now e n)
+  unfolding putBit
   entry-more n now true h eq x = record {
     long = length-set-bit now e n ∙ x .long;
     here = λ q l. lt-or-le q n (λ u. set-bit-other now e n q (λ d. omega arith) ∙ x .here q u) (λ u. let d : q ≡ n = omega arith in rw d (set-bit-same now e n (omega (arith, x .long)) h ∙ eq));
@@ -34,7 +35,7 @@ module _ (e : ℕ) (f : ℕ → Bool) (old : List ℕ) (room : 4 * e + 4 ≤ len
     apart = x .apart;
   }
 
-  pub entry-turn : (n : ℕ) (now next : List ℕ) (on : Bool) → n < 256 → on ≡ f n → next ≡ cond on (setBit now e n) now → Entry e n f old now → Entry e (n + 1) f old next
+  pub entry-turn : (n : ℕ) (now next : List ℕ) (on : Bool) → n < 256 → on ≡ f n → next ≡ putBit on now e n → Entry e n f old now → Entry e (n + 1) f old next
   entry-turn n now next on h eq k x = rw k (entry-more n now on h eq x)
 
 module _ (e : ℕ) (f : ℕ → Bool) (old mid : List ℕ) (clean : mid ≡ wiped old e) where

@@ -1,24 +1,12 @@
 // What is made once a call: for each row the rows that it reaches, and for each length the rows that give an option there.
 ghost use mathlib.Core.Path.{_≡_};
-ghost use mathlib.Core.Bool.{cond};
 ghost use Prim.Native.Nat.{_+_, _*_, _≤_, _<_};
 ghost use lib.ListN.{length};
 ghost use Rattle.paper.specs.Sheet.{grammarOf};
-ghost use Rattle.table.specs.Bits.{setBit};
 ghost use Rattle.options.specs.Giving.{giving};
 ghost use Rattle.options.specs.Prepared.{JobOf, Prepared, Entry, across, Turned, Given};
 use super::Job;
 use super::sizes;
-
-// Row q into entry e, where the test passed.
-fn put_row(ws: &mut [u64], e: usize, q: usize, on: bool)
-    requires { ⌜ (4 * e + 4 ≤ length (now ws)) × (q < 256) ⌝ }
-    ensures { λ _. ⌜ now (ws .exit) ≡ cond on (setBit (now (ws .entry)) e q) (now (ws .entry)) ⌝ }
-{
-    if on {
-        table::set(ws, e, q);
-    }
-}
 
 // The rows below n whose entry in `from` holds row r, into entry r.
 fn turn_row(from: &[u64], n: usize, ws: &mut [u64], r: usize)
@@ -29,7 +17,7 @@ fn turn_row(from: &[u64], n: usize, ws: &mut [u64], r: usize)
     let mut q = 0;
     while q < n {
         let on = table::test(from, q, r);
-        put_row(ws, r, q, on);
+        table::put(ws, r, q, on);
         q += 1;
     }
 }
@@ -56,7 +44,7 @@ fn give(s: &[u8], j: Job, ws: &mut [u64], m: usize)
     while q < j.rows {
         let f = sheet::row_at(s, j.at, q);
         let count = sizes::own_count(f, m);
-        put_row(ws, 256 + m, q, count != 0);
+        table::put(ws, 256 + m, q, count != 0);
         q += 1;
     }
 }

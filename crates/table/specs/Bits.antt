@@ -1,7 +1,7 @@
 -- A table's bits: four words a span, and bit r of a span, r below 256, is bit r % 64 of its word r / 64.
 -- A table of four words has the one span 0, and a table of 256 sets of rows the spans 0 to 255.
 use Prim.Native.Nat.{ℕ, _+_, _*_, _/_, _%_, _^_}
-use mathlib.Core.Bool.{Bool, _&&_}
+use mathlib.Core.Bool.{Bool, cond, _&&_}
 use mathlib.Core.List.{List}
 use lib.ListN.{getD, set}
 use lib.Dec.{eqb, ltb}
@@ -18,6 +18,10 @@ bitAt ws s r = ltb r 256 && eqb (bit (getD ws (4 * s + r / 64) 0) (r % 64)) 1
 -- the table with bit r of span s set
 unfoldable pub setBit : List ℕ → (s r : ℕ) → List ℕ
 setBit ws s r = set ws (4 * s + r / 64) (bitOr (getD ws (4 * s + r / 64) 0) (2 ^ (r % 64)))
+
+-- the same, where the test passed
+unfoldable pub putBit : Bool → List ℕ → (s r : ℕ) → List ℕ
+putBit on ws s r = cond on (setBit ws s r) ws
 
 -- the table with the words a, b, c, d in span s
 unfoldable pub fourAt : List ℕ → (s a b c d : ℕ) → List ℕ

@@ -5,7 +5,7 @@ ghost use Prim.Native.Nat.{_+_, _*_, _≤_, _<_};
 ghost use lib.ListN.{length};
 ghost use Rattle.paper.specs.Answers.{words, zeroed};
 ghost use Rattle.table.specs.Spans.{spanAt};
-ghost use Rattle.table.specs.Bits.{bitAt, setBit, wiped, copied, joined, noneAt};
+ghost use Rattle.table.specs.Bits.{bitAt, setBit, putBit, wiped, copied, joined, noneAt};
 ghost use Rattle.table.specs.Room.{Grows};
 
 // The number of the span of m places from place i on.
@@ -32,6 +32,16 @@ pub fn set(ws: &mut [u64], s: usize, r: usize)
 {
     let w = 4 * s + r / 64;
     ws[w] = ws[w] | (1u64 << (r % 64));
+}
+
+// Row r into span s, where the test passed.
+pub fn put(ws: &mut [u64], s: usize, r: usize, on: bool)
+    requires { ⌜ (4 * s + 4 ≤ length (now ws)) × (r < 256) ⌝ }
+    ensures { λ _. ⌜ now (ws .exit) ≡ putBit on (now (ws .entry)) s r ⌝ }
+{
+    if on {
+        set(ws, s, r);
+    }
 }
 
 // Whether span s has no row.

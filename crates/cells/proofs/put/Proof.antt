@@ -1,28 +1,22 @@
-use mathlib.Core.Path.{_≡_, refl, sym, ap, _∙_, subst}
-use mathlib.Core.Bool.{false}
 use native.Mathlib.Omega.{arith}
 use borrow.Author.Needs.{needs}
-use Rattle.cells.specs.Steps.{Adds, only}
-use Rattle.cells.proofs.Adding.{adds-none, adds-set}
-use Rattle.cells.proofs.Splitting.{only-off}
+use Rattle.cells.proofs.Adding.{adds-put}
 use Rattle.cells.proofs.put.Statement.{statement}
 use Rattle.cells.proofs.put.Tie as tie
+use Rattle.cells.proofs.put.Reads as reads
+use Rattle.cells.proofs.put.Lts as lts
+use Rattle.table.proofs.put.Reads as put-reads
 
-set-requires : tie.Need-set-requires
-set-requires c κs = search needs
+put-requires : tie.Need-put-requires
+put-requires c κs = search needs
 
 same-length : tie.Need-same-length
 same-length c = search needs
 
 returns : tie.Need-returns
 returns c =
-    let a = c .before .before .before .before .before .before .args in
-    rw (c .before .before .before .before .if1 .taken, c .before .before .set .ensures) (adds-set (a .work .now) (a .sp) (omega arith) (a .q) (omega arith) (omega arith))
-
-returns-2 : tie.Need-returns-2
-returns-2 c =
-    let a = c .before .before .args in
-    rw (c .if1 .left) (adds-none (a .sp) (only (a .q) false) (a .work .now) (only-off (a .q)))
+    let a = c .before .before .before .before .before .args in
+    rw (c .before .before .put .ensures) (adds-put (a .work .now) (a .sp) (omega arith) (a .q) (omega arith) (omega arith) (a .on))
 
 pub put-spec : {M : Type 1} → statement M
-put-spec = tie.close (tie.spec set-requires same-length returns returns-2)
+put-spec = tie.close (tie.spec put-requires same-length returns)

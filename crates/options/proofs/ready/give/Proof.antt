@@ -36,11 +36,11 @@ row-at-requires c κs =
 own-count-requires : tie.Need-own-count-requires Inv-loop μ-loop
 own-count-requires c κs = (c .row-at .ensures .facts .least, c .row-at .ensures .facts .most, omega arith)
 
-add-put-row : tie.Need-add-put-row Inv-loop μ-loop
-add-put-row c = omega arith
+add-put : tie.Need-add-put Inv-loop μ-loop
+add-put c = omega arith
 
-put-row-requires : tie.Need-put-row-requires Inv-loop μ-loop
-put-row-requires c κs =
+put-requires : tie.Need-put-requires Inv-loop μ-loop
+put-requires c κs =
     let a = c .before .before .before .before .before .before .before .before .before .before .before .before .args in
     let f = giving (grammarOf (a .s .now)) (a .m) in
     (omega (arith, c .before .before .before .before .before .loop .inv .2, entry-length (256 + a .m) f (a .ws .now) _ (c .before .before .before .before .before .before .before .before .wipe .ensures)), omega (arith, c .before .before .before .before .before .before .before .before .before .before .before .before .pre .0 .few))
@@ -59,7 +59,7 @@ loop-again c =
     let long = entry-length (256 + a .m) f (a .ws .now) _ (c .before .before .before .before .before .before .before .before .before .before .before .wipe .ensures) in
     let on = giving-is (a .s .now) (a .m) (l .q) _ _ (c .before .before .before .before .before .row-at .ensures) (c .before .before .before .before .own-count .ensures) in (
       omega arith,
-      entry-turn (256 + a .m) f _ (omega arith) (l .q) (l .ws) _ _ (omega (arith, c .before .before .before .before .before .before .before .before .before .before .before .before .before .before .before .pre .0 .few)) on (c .before .before .put-row .ensures) (l .inv .1),
+      entry-turn (256 + a .m) f _ (omega arith) (l .q) (l .ws) _ _ (omega (arith, c .before .before .before .before .before .before .before .before .before .before .before .before .before .before .before .pre .0 .few)) on (c .before .before .put .ensures) (l .inv .1),
       search needs,
     )
 
@@ -84,8 +84,8 @@ give-spec =
     loop-holds
     row-at-requires
     own-count-requires
-    add-put-row
-    put-row-requires
+    add-put
+    put-requires
     add-q
     loop-less
     loop-again

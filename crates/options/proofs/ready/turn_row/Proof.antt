@@ -26,8 +26,8 @@ loop-holds c =
 test-requires : tie.Need-test-requires Inv-loop μ-loop
 test-requires c κs = (omega arith, omega arith)
 
-put-row-requires : tie.Need-put-row-requires Inv-loop μ-loop
-put-row-requires c κs =
+put-requires : tie.Need-put-requires Inv-loop μ-loop
+put-requires c κs =
     let a = c .before .before .before .before .before .before .before .before .before .before .args in
     (omega (arith, c .before .before .before .loop .inv .2, entry-length (a .r) (across (a .from .now) (a .r)) (a .ws .now) _ (c .before .before .before .before .before .before .wipe .ensures)), omega arith)
 
@@ -44,7 +44,7 @@ loop-again c =
     let f = across (a .from .now) (a .r) in
     let long = entry-length (a .r) f (a .ws .now) _ (c .before .before .before .before .before .before .before .before .before .wipe .ensures) in (
       omega arith,
-      entry-turn (a .r) f _ (omega arith) (l .q) (l .ws) _ _ (omega arith) (c .before .before .before .before .test .ensures) (c .before .before .put-row .ensures) (l .inv .1),
+      entry-turn (a .r) f _ (omega arith) (l .q) (l .ws) _ _ (omega arith) (c .before .before .before .before .test .ensures) (c .before .before .put .ensures) (l .inv .1),
       search needs,
     )
 
@@ -67,7 +67,7 @@ turn-row-spec =
     wipe-requires
     loop-holds
     test-requires
-    put-row-requires
+    put-requires
     add-q
     loop-less
     loop-again

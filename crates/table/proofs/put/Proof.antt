@@ -1,8 +1,8 @@
 use mathlib.Core.Path.{refl}
-use Rattle.groundwork.specs.Laying.{putBit}
+use Rattle.table.specs.Bits.{putBit}
 use borrow.Author.Needs.{needs}
-use Rattle.groundwork.proofs.put.Statement.{statement}
-use Rattle.groundwork.proofs.put.Tie as tie
+use Rattle.table.proofs.put.Statement.{statement}
+use Rattle.table.proofs.put.Tie as tie
 
 set-requires : tie.Need-set-requires
 set-requires c κs = search needs
