@@ -11,17 +11,21 @@ use lib.Dec.{eqb}
 use lib.ListN.{length, getD, take, drop, length-append}
 use lib.Seq.{ext-getD, drop-cons}
 use Rattle.paper.proofs.Tests.{any-intro, any-elim, and-intro, and-left, and-right, and-assoc, same-test, eqb-same, same-eqb}
+use Rattle.paper.specs.Compare.{sameByte, Same}
 use Rattle.paper.specs.Rows.{Row, Empty, Range, Text, Alt, Seq, Star, Grammar, row, stretch, Derives, Keeps, Reach}
 use Rattle.paper.specs.Decide.{exactly, someIn, carried, reaches, Pattern, fits, Test, split, ownRow, level, upTo, accepts}
-use Rattle.paper.proofs.Reaching.{derives-below, nullable-sound, nullable-from, reaches-sound, reaches-from, carried-any, reach-derives}
+use Rattle.paper.proofs.Comparing.{same-length, same-at, at-same}
+use Rattle.paper.proofs.Spelling as spelling
+use Rattle.paper.proofs.Spelling.{Spells, spells-derives, spells-itself}
+use Rattle.paper.proofs.Reaching.{spells-below, null-spells, spells-null, reaches-sound, reaches-from, carried-any, reach-spells}
 
 -- ---- a derivation of a word that is not empty comes from a row that is reached and takes bytes itself
 
 data Own (g : Grammar) : ℕ → List ℕ → Type 0 where
   own-range : {q lo hi b : ℕ} → row g q ≡ Range lo hi → lo ≤ b → b ≤ hi → Own g q (b ∷ [])
   own-text : {q off len : ℕ} → row g q ≡ Text off len → Own g q (stretch 0 (g .text) off len)
-  own-seq : {q a b : ℕ} {u v : List ℕ} → row g q ≡ Seq a b → 0 < length u → 0 < length v → Derives g a u → Derives g b v → Own g q (u ++ v)
-  own-star : {q a : ℕ} {u v : List ℕ} → row g q ≡ Star a → 0 < length u → 0 < length v → Derives g a u → Derives g q v → Own g q (u ++ v)
+  own-seq : {q a b : ℕ} {u v : List ℕ} → row g q ≡ Seq a b → 0 < length u → 0 < length v → Spells g a u → Spells g b v → Own g q (u ++ v)
+  own-star : {q a : ℕ} {u v : List ℕ} → row g q ≡ Star a → 0 < length u → 0 < length v → Spells g a u → Spells g q v → Own g q (u ++ v)
 
 record Peeled (g : Grammar) (r : ℕ) (w : List ℕ) : Type 0 where
   at : ℕ
@@ -31,25 +35,25 @@ record Peeled (g : Grammar) (r : ℕ) (w : List ℕ) : Type 0 where
 peel-step : (g : Grammar) {r p : ℕ} {w : List ℕ} → Keeps g r p → Peeled g p w → Peeled g r w
 peel-step g k z = record { at = z .at; reached = Reach.step k (z .reached); own = z .own }
 
-own-derives : (g : Grammar) {q : ℕ} {w : List ℕ} → Own g q w → Derives g q w
-own-derives g (Own.own-range e l h) = Derives.range e l h
-own-derives g (Own.own-text e) = Derives.text e
-own-derives g (Own.own-seq e _ _ c d) = Derives.seq e c d
-own-derives g (Own.own-star e _ _ c d) = Derives.star-more e c d
+own-spells : (g : Grammar) {q : ℕ} {w : List ℕ} → Own g q w → Spells g q w
+own-spells g (Own.own-range e l h) = Spells.range e l h
+own-spells g (Own.own-text e) = Spells.text e
+own-spells g (Own.own-seq e _ _ c d) = Spells.seq e c d
+own-spells g (Own.own-star e _ _ c d) = Spells.star-more e c d
 
-peel : (g : Grammar) {r : ℕ} {w : List ℕ} → Derives g r w → 0 < length w → Peeled g r w
-peel g (Derives.empty e) h = absurd (not-suc-le-zero h)
-peel g (Derives.range {r = r} e l m) h = record { at = r; reached = Reach.here; own = Own.own-range e l m }
-peel g (Derives.text {r = r} e) h = record { at = r; reached = Reach.here; own = Own.own-text e }
-peel g (Derives.alt-left e d) h = peel-step g (Keeps.keep-left e) (peel g d h)
-peel g (Derives.alt-right e d) h = peel-step g (Keeps.keep-right e) (peel g d h)
-peel g (Derives.seq {u = []} e c d) h = peel-step g (Keeps.keep-second e c) (peel g d h)
-peel g (Derives.seq {u = x ∷ u} {v = []} e c d) h = rw append-nil (peel-step g (Keeps.keep-first e d) (peel g c (omega arith)))
-peel g (Derives.seq {r = r} {u = x ∷ u} {v = y ∷ v} e c d) h = record { at = r; reached = Reach.here; own = Own.own-seq {u = x ∷ u} {v = y ∷ v} e (omega arith) (omega arith) c d }
-peel g (Derives.star-none e) h = absurd (not-suc-le-zero h)
-peel g (Derives.star-more {u = []} e c d) h = peel g d h
-peel g (Derives.star-more {u = x ∷ u} {v = []} e c d) h = rw append-nil (peel-step g (Keeps.keep-star e) (peel g c (omega arith)))
-peel g (Derives.star-more {r = r} {u = x ∷ u} {v = y ∷ v} e c d) h = record { at = r; reached = Reach.here; own = Own.own-star {u = x ∷ u} {v = y ∷ v} e (omega arith) (omega arith) c d }
+peel : (g : Grammar) {r : ℕ} {w : List ℕ} → Spells g r w → 0 < length w → Peeled g r w
+peel g (Spells.empty e) h = absurd (not-suc-le-zero h)
+peel g (Spells.range {r = r} e l m) h = record { at = r; reached = Reach.here; own = Own.own-range e l m }
+peel g (Spells.text {r = r} e) h = record { at = r; reached = Reach.here; own = Own.own-text e }
+peel g (Spells.alt-left e d) h = peel-step g (Keeps.keep-left e) (peel g d h)
+peel g (Spells.alt-right e d) h = peel-step g (Keeps.keep-right e) (peel g d h)
+peel g (Spells.seq {u = []} e c d) h = peel-step g (Keeps.keep-second e (spells-itself g c)) (peel g d h)
+peel g (Spells.seq {u = x ∷ u} {v = []} e c d) h = rw append-nil (peel-step g (Keeps.keep-first e (spells-itself g d)) (peel g c (omega arith)))
+peel g (Spells.seq {r = r} {u = x ∷ u} {v = y ∷ v} e c d) h = record { at = r; reached = Reach.here; own = Own.own-seq {u = x ∷ u} {v = y ∷ v} e (omega arith) (omega arith) c d }
+peel g (Spells.star-none e) h = absurd (not-suc-le-zero h)
+peel g (Spells.star-more {u = []} e c d) h = peel g d h
+peel g (Spells.star-more {u = x ∷ u} {v = []} e c d) h = rw append-nil (peel-step g (Keeps.keep-star e) (peel g c (omega arith)))
+peel g (Spells.star-more {r = r} {u = x ∷ u} {v = y ∷ v} e c d) h = record { at = r; reached = Reach.here; own = Own.own-star {u = x ∷ u} {v = y ∷ v} e (omega arith) (omega arith) c d }
 
 -- ---- patterns
 
@@ -72,7 +76,7 @@ pub record Word (g : Grammar) (pat : Pattern) (m i r : ℕ) : Type 0 where
   pub word : List ℕ
   pub long : length word ≡ m
   pub fit : fits pat i word ≡ true
-  pub derived : Derives g r word
+  pub spelled : Spells g r word
 
 -- the test is right at length m
 abbrev pub Right : Grammar → Pattern → Test → ℕ → Type 0
@@ -80,19 +84,19 @@ Right g pat acc m = (i r : ℕ) → (acc m i r ≡ true) ↔ Word g pat m i r
 
 module _ (g : Grammar) (pat : Pattern) where
   -- a word of m bytes in two parts, neither empty
-  join : {a b m i : ℕ} (k : ℕ) → k ≤ m → Word g pat k i a → Word g pat (m - k) (i + k) b → (r : ℕ) → ((u v : List ℕ) → Derives g a u → Derives g b v → Derives g r (u ++ v)) → Word g pat m i r
+  join : {a b m i : ℕ} (k : ℕ) → k ≤ m → Word g pat k i a → Word g pat (m - k) (i + k) b → (r : ℕ) → ((u v : List ℕ) → Spells g a u → Spells g b v → Spells g r (u ++ v)) → Word g pat m i r
   join {m = m} {i = i} k h x y r by = record {
     word = x .word ++ y .word;
     long = rw length-append (omega (arith, x .long, y .long));
     fit = rw fits-append (and-intro (x .fit) (rw (x .long) (y .fit)));
-    derived = by (x .word) (y .word) (x .derived) (y .derived);
+    spelled = by (x .word) (y .word) (x .spelled) (y .spelled);
   }
 
   -- the shorter lengths are right
   abbrev Shorter : Test → ℕ → Type 0
   Shorter acc m = (k : ℕ) → k < m → Right g pat acc k
 
-  split-sound : (acc : Test) (m : ℕ) → Shorter acc m → (i a b r : ℕ) → ((u v : List ℕ) → Derives g a u → Derives g b v → Derives g r (u ++ v)) → split acc a b m i ≡ true → Word g pat m i r
+  split-sound : (acc : Test) (m : ℕ) → Shorter acc m → (i a b r : ℕ) → ((u v : List ℕ) → Spells g a u → Spells g b v → Spells g r (u ++ v)) → split acc a b m i ≡ true → Word g pat m i r
   unfolding split
   split-sound acc m ih i a b r by e =
       let s = any-elim (m - 1) (λ j. acc (suc j) i a && acc (m - suc j) (i + suc j) b) e in
@@ -110,19 +114,19 @@ module _ (g : Grammar) (pat : Pattern) where
       let s = any-elim (suc hi - lo) (λ k. pat i (lo + k)) (and-right (eqb m 1) _ e) in
       let k = s .0 in
       let l : s .0 < suc hi - lo = s .1 in
-      record { word = (lo + k) ∷ []; long = sym one; fit = and-intro (s .2) refl; derived = Derives.range {b = lo + k} p (omega arith) (omega arith) }
+      record { word = (lo + k) ∷ []; long = sym one; fit = and-intro (s .2) refl; spelled = Spells.range {b = lo + k} p (omega arith) (omega arith) }
   own-sound acc m ih i q (Text off len) p e =
       record {
         word = stretch 0 (g .text) off len;
         long = stretch-length (g .text) off len ∙ eqb-same len m (and-left _ _ e);
         fit = and-right (eqb len m) _ e;
-        derived = Derives.text p;
+        spelled = Spells.text p;
       }
   own-sound acc m ih i q (Alt a b) p e = absurd (true≢false (sym e))
-  own-sound acc m ih i q (Seq a b) p e = split-sound acc m ih i a b q (λ u v c d. Derives.seq p c d) e
-  own-sound acc m ih i q (Star a) p e = split-sound acc m ih i a q q (λ u v c d. Derives.star-more p c d) e
+  own-sound acc m ih i q (Seq a b) p e = split-sound acc m ih i a b q (λ u v c d. Spells.seq p c d) e
+  own-sound acc m ih i q (Star a) p e = split-sound acc m ih i a q q (λ u v c d. Spells.star-more p c d) e
 
-  split-from : (acc : Test) (i a b : ℕ) (u v : List ℕ) → Shorter acc (length (u ++ v)) → 0 < length u → 0 < length v → fits pat i (u ++ v) ≡ true → Derives g a u → Derives g b v
+  split-from : (acc : Test) (i a b : ℕ) (u v : List ℕ) → Shorter acc (length (u ++ v)) → 0 < length u → 0 < length v → fits pat i (u ++ v) ≡ true → Spells g a u → Spells g b v
       → split acc a b (length (u ++ v)) i ≡ true
   unfolding split
   split-from acc i a b [] v ih hu hv f c d = absurd (not-suc-le-zero hu)
@@ -131,8 +135,8 @@ module _ (g : Grammar) (pat : Pattern) where
       let w : (fits pat i (x ∷ u) && fits pat (i + suc (length u)) v) ≡ true = rw (fits-append pat i (x ∷ u) v) at f in
       any-intro (length ((x ∷ u) ++ v) - 1) (λ j. acc (suc j) i a && acc (length ((x ∷ u) ++ v) - suc j) (i + suc j) b) (length u) (omega arith)
       (and-intro
-      ((ih (suc (length u)) (omega arith) i a) .1 (record { word = x ∷ u; long = refl; fit = and-left _ _ w; derived = c }))
-      ((ih (length ((x ∷ u) ++ v) - suc (length u)) (omega arith) (i + suc (length u)) b) .1 (record { word = v; long = omega arith; fit = and-right (fits pat i (x ∷ u)) _ w; derived = d })))
+      ((ih (suc (length u)) (omega arith) i a) .1 (record { word = x ∷ u; long = refl; fit = and-left _ _ w; spelled = c }))
+      ((ih (length ((x ∷ u) ++ v) - suc (length u)) (omega arith) (i + suc (length u)) b) .1 (record { word = v; long = omega arith; fit = and-right (fits pat i (x ∷ u)) _ w; spelled = d })))
 
   own-from : (acc : Test) {q : ℕ} {w : List ℕ} → Own g q w → Shorter acc (length w) → (i : ℕ) → fits pat i w ≡ true → ownRow g pat acc q (row g q) (length w) i ≡ true
   unfolding ownRow fits someIn
@@ -148,7 +152,7 @@ module _ (g : Grammar) (pat : Pattern) where
   -- a length is right where the shorter ones are
   pub level-right : (acc : Test) (m : ℕ) → Shorter acc m → Right g pat (level g pat acc) m
   unfolding level fits
-  level-right acc zero ih i r = (λ e. record { word = []; long = refl; fit = refl; derived = nullable-sound g r e }, λ w. nullable-from g (w .derived) (nil-of-length (w .word) (w .long)))
+  level-right acc zero ih i r = (λ e. record { word = []; long = refl; fit = refl; spelled = null-spells g r e }, λ w. spells-null g (w .spelled) (nil-of-length (w .word) (w .long)))
   level-right acc (suc m) ih i r = (sound, from)
     where
       sound : level g pat acc (suc m) i r ≡ true → Word g pat (suc m) i r
@@ -157,13 +161,13 @@ module _ (g : Grammar) (pat : Pattern) where
           let q = s .0 in
           let x = reaches-sound g r q (and-left (reaches g r q) _ (s .2)) in
           let w = own-sound acc (suc m) ih i q (row g q) refl (and-right (reaches g r q) _ (s .2)) in
-          record { word = w .word; long = w .long; fit = w .fit; derived = reach-derives g x (w .derived) }
+          record { word = w .word; long = w .long; fit = w .fit; spelled = reach-spells g x (w .spelled) }
 
       from : Word g pat (suc m) i r → level g pat acc (suc m) i r ≡ true
       from w =
           let n : length (w .word) ≡ suc m = w .long in
-          let z = peel g (w .derived) (omega arith) in
-          let l = derives-below g (own-derives g (z .own)) in
+          let z = peel g (w .spelled) (omega arith) in
+          let l = spells-below g (own-spells g (z .own)) in
           any-intro (length (g .rows)) (λ q. reaches g r q && ownRow g pat acc q (row g q) (suc m) i) (z .at) l
           (and-intro (reaches-from g l (z .reached)) (own-at acc (z .own) (suc m) n ih i (w .fit)))
 
@@ -203,19 +207,19 @@ at-fits pat i (b ∷ w) h = and-intro (rw add-zero at (h 0 (omega arith))) (at-f
 
 -- the theorem in plain words
 pub accepts-iff : (g : Grammar) (pat : Pattern) (m i r : ℕ)
-    → (accepts g pat m i r ≡ true) ↔ ((w : List ℕ) × (length w ≡ m) × ((p : ℕ) → p < m → pat (i + p) (getD w p 0) ≡ true) × Derives g r w)
+    → (accepts g pat m i r ≡ true) ↔ ((w : List ℕ) × (length w ≡ m) × ((p : ℕ) → p < m → pat (i + p) (getD w p 0) ≡ true) × Spells g r w)
 accepts-iff g pat m i r = (there, back)
   where
-    there : accepts g pat m i r ≡ true → (w : List ℕ) × (length w ≡ m) × ((p : ℕ) → p < m → pat (i + p) (getD w p 0) ≡ true) × Derives g r w
+    there : accepts g pat m i r ≡ true → (w : List ℕ) × (length w ≡ m) × ((p : ℕ) → p < m → pat (i + p) (getD w p 0) ≡ true) × Spells g r w
     there e =
         let w = (accepts-right g pat m i r) .0 e in
         let n : length (w .word) ≡ m = w .long in
-        (w .word, w .long, λ p l. fits-at pat i (w .word) (w .fit) p (omega arith), w .derived)
+        (w .word, w .long, λ p l. fits-at pat i (w .word) (w .fit) p (omega arith), w .spelled)
 
-    back : ((w : List ℕ) × (length w ≡ m) × ((p : ℕ) → p < m → pat (i + p) (getD w p 0) ≡ true) × Derives g r w) → accepts g pat m i r ≡ true
+    back : ((w : List ℕ) × (length w ≡ m) × ((p : ℕ) → p < m → pat (i + p) (getD w p 0) ≡ true) × Spells g r w) → accepts g pat m i r ≡ true
     back w =
         let n : length (w .0) ≡ m = w .1 in
-        (accepts-right g pat m i r) .1 (record { word = w .0; long = w .1; fit = at-fits pat i (w .0) (λ p l. w .2 p (omega arith)); derived = w .3 })
+        (accepts-right g pat m i r) .1 (record { word = w .0; long = w .1; fit = at-fits pat i (w .0) (λ p l. w .2 p (omega arith)); spelled = w .3 })
 
 -- ---- one word
 
@@ -227,11 +231,14 @@ derives-iff g r w = (there, back)
     there : accepts g (exactly w) (length w) 0 r ≡ true → Derives g r w
     there e =
         let z = (accepts-iff g (exactly w) (length w) 0 r) .0 e in
-        let same : z .0 ≡ w = ext-getD 0 (z .0) w (z .1) (λ p l. rw zero-add at (eqb-same (getD (z .0) p 0) (getD w (0 + p) 0) (z .2 p (omega (arith, z .1))))) in
-        subst (Derives g r) same (z .3)
+        let n : length (z .0) ≡ length w = z .1 in
+        spells-derives g (z .3) w (same-at (z .0) w n (λ p l. rw zero-add at (z .2 p (omega arith))))
 
     back : Derives g r w → accepts g (exactly w) (length w) 0 r ≡ true
-    back d = (accepts-iff g (exactly w) (length w) 0 r) .1 (w, refl, (λ p l. rw zero-add (same-eqb (getD w p 0) (getD w p 0) refl)), d)
+    back d =
+        let x = spelling.spelled g d in
+        let n : length (x .word) ≡ length w = same-length (x .word) w (x .same) in
+        (accepts-iff g (exactly w) (length w) 0 r) .1 (x .word, n, (λ p l. rw zero-add (at-same (x .word) w (x .same) p (omega arith))), x .spells)
 
 -- a stretch that lies inside the text, as a part of it
 pub stretch-part : (t : List ℕ) (off len : ℕ) → off + len ≤ length t → stretch 0 t off len ≡ take len (drop off t)

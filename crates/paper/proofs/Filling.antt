@@ -10,12 +10,14 @@ use native.Mathlib.Nat.{not-suc-le-zero}
 use lib.ListN.{length, getD, take, drop, replicate, length-append, List·getD-map}
 use Rattle.paper.specs.Tests.{anyOf}
 use Rattle.paper.specs.Rows.{stretch}
+use Rattle.paper.specs.Compare.{sameByte, Same}
 use Rattle.paper.specs.Decide.{fits}
 use Rattle.paper.specs.Terms.{Part, Const, All, Cut, Place, Known, Unknown, placesOf, piece, term}
 use Rattle.paper.specs.Sheet.{Sheet, Run, letter, partsOf}
 use Rattle.paper.specs.Satisfy.{termWord, Letters}
-use Rattle.paper.specs.Open.{termPlaces, Fills, SomeUnknown}
+use Rattle.paper.specs.Open.{termOn, Fills, SomeUnknown}
 use Rattle.paper.specs.Opens.{allows, pattern, isUnknown}
+use Rattle.paper.proofs.Comparing.{byte-refl}
 use Rattle.paper.proofs.Tests.{and-intro, and-left, and-right, eqb-same, same-eqb, or-right, any-of-nil, any-of-cons, any-of-append}
 
 -- ---- known places
@@ -114,26 +116,23 @@ module _ (s : Sheet) where
   letter-fills b l (Known x ∷ T) = let r = letter-fills b l T in (x ∷ r .0, Fills.known (r .1))
   letter-fills b l (Unknown ∷ T) = let r = letter-fills b l T in (b ∷ r .0, Fills.filled l (r .1))
 
-  pub fills-cons : (P : Place) (b : ℕ) {T : List Place} {t : List ℕ} → allows s P b ≡ true → Fills s T t → Fills s (P ∷ T) (b ∷ t)
+  -- a place allows a byte exactly when it can hold one that is the same
+  pub allows-fills : (P : Place) (b : ℕ) → allows s P b ≡ true → (c : ℕ) × (sameByte b c ≡ true) × Fills s (P ∷ []) (c ∷ [])
   unfolding allows
-  fills-cons (Known x) b {T} {t} e f = subst (λ (y : ℕ). Fills s (Known y ∷ T) (b ∷ t)) (eqb-same b x e) (Fills.known f)
-  fills-cons Unknown b e f = Fills.filled e f
+  allows-fills (Known x) b e = (x, e, Fills.known Fills.none)
+  allows-fills Unknown b e = (b, byte-refl b, Fills.filled e Fills.none)
 
-  -- what a place holds it allows; past the end both are the default
-  pub fills-at : {T : List Place} {t : List ℕ} → Fills s T t → (i : ℕ) → allows s (getD T i (Known 0)) (getD t i 0) ≡ true
+  pub fills-allows : {P : Place} {c : ℕ} → Fills s (P ∷ []) (c ∷ []) → (b : ℕ) → sameByte b c ≡ true → allows s P b ≡ true
   unfolding allows
-  fills-at Fills.none i = refl
-  fills-at (Fills.known {b = b} f) zero = same-eqb b b refl
-  fills-at (Fills.known f) (suc i) = fills-at f i
-  fills-at (Fills.filled l f) zero = l
-  fills-at (Fills.filled l f) (suc i) = fills-at f i
+  fills-allows (Fills.known f) b e = e
+  fills-allows (Fills.filled {b = c} l f) b e = rw (eqb-same b c e) l
 
-  pub fills-below : {T : List Place} {t : List ℕ} → Fills s T t → (P : Place) (i : ℕ) → i < length T → allows s (getD T i P) (getD t i 0) ≡ true
-  unfolding allows
+  -- the byte at a place fills it
+  pub fills-below : {T : List Place} {t : List ℕ} → Fills s T t → (P : Place) (i : ℕ) → i < length T → Fills s (getD T i P ∷ []) (getD t i 0 ∷ [])
   fills-below Fills.none P i h = absurd (not-suc-le-zero h)
-  fills-below (Fills.known {b = b} f) P zero h = same-eqb b b refl
+  fills-below (Fills.known f) P zero h = Fills.known Fills.none
   fills-below (Fills.known f) P (suc i) h = fills-below f P i (omega arith)
-  fills-below (Fills.filled l f) P zero h = l
+  fills-below (Fills.filled l f) P zero h = Fills.filled l Fills.none
   fills-below (Fills.filled l f) P (suc i) h = fills-below f P i (omega arith)
 
   -- ---- filling and fitting
@@ -148,34 +147,32 @@ module _ (s : Sheet) where
   fits-drop [] (suc i) w h = absurd (not-suc-le-zero h)
   fits-drop (P ∷ T) (suc i) w h = fits-next P T i w ∙ fits-drop T i w (omega arith)
 
-  -- a word that fits the first places fills them
-  pub fits-fills : (T : List Place) (w : List ℕ) → length w ≤ length T → fits (pattern s T) 0 w ≡ true → Fills s (take (length w) T) w
+  -- where a word fits the first places, one that is the same fills them
+  pub fits-fills : (T : List Place) (w : List ℕ) → length w ≤ length T → fits (pattern s T) 0 w ≡ true → (t : List ℕ) × Same w t × Fills s (take (length w) T) t
   unfolding fits pattern
-  fits-fills T [] h e = Fills.none
+  fits-fills T [] h e = ([], tt, Fills.none)
   fits-fills [] (b ∷ w) h e = absurd (not-suc-le-zero h)
   fits-fills (P ∷ T) (b ∷ w) h e =
-      fills-cons P b (and-left (allows s P b) _ e) (fits-fills T w (omega arith) (sym (fits-next P T 0 w) ∙ and-right (allows s P b) _ e))
+      let c = allows-fills P b (and-left (allows s P b) _ e) in
+      let r = fits-fills T w (omega arith) (sym (fits-next P T 0 w) ∙ and-right (allows s P b) _ e) in
+      (c .0 ∷ r .0, (c .1, r .1), fills-append (c .2) (r .2))
 
-  -- the start of a word that fills the places fits them
-  pub fills-fits : {T : List Place} {t : List ℕ} → Fills s T t → (w y : List ℕ) → t ≡ w ++ y → fits (pattern s T) 0 w ≡ true
-  unfolding fits pattern allows
-  fills-fits f [] y e = refl
-  fills-fits Fills.none (c ∷ w) y e = absurd (let z : _≡_ {A = ℕ} 0 1 = cc in omega arith)
-  fills-fits (Fills.known {b = b} {ps = T} {w = t} f) (c ∷ w) y e =
-      let p : c ≡ b = cc in
-      let q : t ≡ w ++ y = cc in
-      and-intro (same-eqb c b p) (fits-next (Known b) T 0 w ∙ fills-fits f w y q)
-  fills-fits (Fills.filled {b = b} {ps = T} {w = t} l f) (c ∷ w) y e =
-      let p : b ≡ c = cc in
-      let q : t ≡ w ++ y = cc in
-      and-intro (rw p at l) (fits-next Unknown T 0 w ∙ fills-fits f w y q)
+  -- what is the same as the start of a word that fills the places fits them
+  pub fills-fits : {T : List Place} {t : List ℕ} → Fills s T t → (w m y : List ℕ) → t ≡ m ++ y → Same w m → fits (pattern s T) 0 w ≡ true
+  unfolding fits pattern
+  fills-fits f [] m y e h = refl
+  fills-fits f (c ∷ w) [] y e h = absurd h
+  fills-fits Fills.none (c ∷ w) (d ∷ m) y e h = absurd (let z : _≡_ {A = ℕ} 0 1 = cc in omega arith)
+  fills-fits (Fills.known {b = b} {ps = T} {w = t} f) (c ∷ w) (d ∷ m) y e h =
+      let p : d ≡ b = cc in
+      let q : t ≡ m ++ y = cc in
+      and-intro (fills-allows (Fills.known {b = b} Fills.none) c (rw p at (h .0))) (fits-next (Known b) T 0 w ∙ fills-fits f w m y q (h .1))
+  fills-fits (Fills.filled {b = b} {ps = T} {w = t} l f) (c ∷ w) (d ∷ m) y e h =
+      let p : d ≡ b = cc in
+      let q : t ≡ m ++ y = cc in
+      and-intro (fills-allows (Fills.filled {b = b} l Fills.none) c (rw p at (h .0))) (fits-next Unknown T 0 w ∙ fills-fits f w m y q (h .1))
 
   -- ---- terms: what fills v fills a term of v, each use of v alike
-
-  pub fills-stretch : {T : List Place} {t : List ℕ} → Fills s T t → (a n : ℕ) → Fills s (stretch (Known 0) T a n) (stretch 0 t a n)
-  unfolding stretch
-  fills-stretch f a zero = Fills.none
-  fills-stretch {T} {t} f a (suc n) = fills-cons (getD T a (Known 0)) (getD t a 0) (fills-at f a) (fills-stretch f (suc a) n)
 
   pub fills-term : (text : List ℕ) {T : List Place} {v : List ℕ} → Fills s T v → (ps : List Part) → Fills s (term Known text T ps) (term (λ b. b) text v ps)
   unfolding term piece
@@ -184,27 +181,30 @@ module _ (s : Sheet) where
       let g : Fills s (map Known (stretch 0 text a b)) (map (λ x. x) (stretch 0 text a b)) = rw map-id (fills-known (stretch 0 text a b)) in
       fills-append g (fills-term text f ps)
   fills-term text f (All ∷ ps) = fills-append f (fills-term text f ps)
-  fills-term text f (Cut a b ∷ ps) = fills-append (fills-stretch f a b) (fills-term text f ps)
+  fills-term text f (Cut a b ∷ ps) = fills-append (fills-take (fills-drop f a) b) (fills-term text f ps)
 
   letters-fill : (v : List ℕ) → Letters s v → Fills s (replicate (length v) Unknown) v
   letters-fill [] h = Fills.none
   letters-fill (b ∷ v) h = Fills.filled (h .0) (letters-fill v (h .1))
 
   -- a key of letters fills the places under each of its prefixes
-  pub prefix-fills : (p v : List ℕ) → Letters s v → (r : Run) → Fills s (termPlaces s (length (p ++ v)) p r) (termWord s (p ++ v) r)
-  unfolding termPlaces termWord placesOf
+  pub prefix-fills : (p v : List ℕ) → Letters s v → (r : Run) → Fills s (termOn s (placesOf (length (p ++ v)) p) r) (termWord s (p ++ v) r)
+  unfolding termOn termWord placesOf
   prefix-fills p v h r =
       let e : length (p ++ v) - length p ≡ length v = omega (arith, length-append p v) in
       fills-term (s .grammar .text) (rw e (fills-append (fills-known p) (letters-fill v h))) (partsOf s r)
 
 -- ---- at a full prefix every place is known
 
-stretch-known : (v : List ℕ) (a n : ℕ) → stretch (Known 0) (map Known v) a n ≡ map Known (stretch 0 v a n)
-unfolding stretch
-stretch-known v a zero = refl
-stretch-known v a (suc n) =
-    let e = stretch-known v (suc a) n in
-    rw (List·getD-map Known v a 0, e)
+take-known : (n : ℕ) (v : List ℕ) → take n (map Known v) ≡ map Known (take n v)
+take-known zero v = refl
+take-known (suc n) [] = refl
+take-known (suc n) (b ∷ v) = ap (λ (l : List Place). Known b ∷ l) (take-known n v)
+
+drop-known : (n : ℕ) (v : List ℕ) → drop n (map Known v) ≡ map Known (drop n v)
+drop-known zero v = refl
+drop-known (suc n) [] = refl
+drop-known (suc n) (b ∷ v) = drop-known n v
 
 term-known : (text v : List ℕ) (ps : List Part) → term Known text (map Known v) ps ≡ map Known (term (λ b. b) text v ps)
 unfolding term piece
@@ -217,10 +217,10 @@ term-known text v (All ∷ ps) =
     rw e (sym (map-append Known v (term (λ b. b) text v ps)))
 term-known text v (Cut a b ∷ ps) =
     let e = term-known text v ps in
-    rw (e, stretch-known v a b) (sym (map-append Known (stretch 0 v a b) (term (λ b. b) text v ps)))
+    rw (e, drop-known a v, take-known b (drop a v)) (sym (map-append Known (take b (drop a v)) (term (λ b. b) text v ps)))
 
-pub places-known : (s : Sheet) (w : List ℕ) (r : Run) → termPlaces s (length w) w r ≡ map Known (termWord s w r)
-unfolding termPlaces termWord placesOf
+pub places-known : (s : Sheet) (w : List ℕ) (r : Run) → termOn s (placesOf (length w) w) r ≡ map Known (termWord s w r)
+unfolding termOn termWord placesOf
 places-known s w r =
     let e : length w - length w ≡ 0 = omega arith in
     rw (e, append-nil) (term-known (s .grammar .text) w (partsOf s r))

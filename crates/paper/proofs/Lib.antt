@@ -1,5 +1,7 @@
 pub mod Keys
 pub mod Tests
+pub mod Comparing
+pub mod Spelling
 pub mod Closure
 pub mod Reaching
 pub mod Derivation

@@ -12,9 +12,10 @@ use borrow.Author.Tests.{le-leb, lt-ltb}
 use Rattle.paper.specs.Bytes.{u8At}
 use Rattle.paper.specs.Trailer.{countOf, recordAt}
 use Rattle.paper.specs.Records.{letterOk}
-use Rattle.paper.specs.Sheet.{Span, Sheet, letter, sheetOf, spanAt}
+use Rattle.paper.specs.Terms.{placesOf}
+use Rattle.paper.specs.Sheet.{Span, Sheet, letter, ofTable, tableOf, sheetOf, spanAt}
 use Rattle.paper.specs.Satisfy.{Letters, Satisfies}
-use Rattle.paper.specs.Open.{termPlaces, Open}
+use Rattle.paper.specs.Open.{termOn, Open}
 use Rattle.paper.specs.Opens.{opens}
 use Rattle.paper.specs.Walk.{Walked, found, none, count}
 use Rattle.paper.specs.Order.{Before, FirstOf}
@@ -34,7 +35,7 @@ HasLetter s = (b : ℕ) × (letter s b ≡ true)
 -- the test decides "open" as the paper words it, each place filled separately; without a letter an unknown place has no filling, which the
 -- test for a contained text does not look for
 pub opens-right : (s : Sheet) → HasLetter s → (n : ℕ) (p : List ℕ) → (opens s n p ≡ true) ↔ Open s n p
-opens-right s l n p = (opens-open s n p (λ r. letter-fills s (l .0) (l .1) (termPlaces s n p r)), open-opens s n p)
+opens-right s l n p = (opens-open s n p (λ r. letter-fills s (l .0) (l .1) (termOn s (placesOf n p) r)), open-opens s n p)
 
 -- an open prefix of n letters, n an allowed length, is exactly a key that satisfies
 pub open-satisfies : (s : Sheet) (w : List ℕ) → Letters s w → s .shortest ≤ length w → length w ≤ s .longest → Open s (length w) w ↔ Satisfies s w
@@ -98,9 +99,9 @@ answer-means s b = go (walkOf s) refl (walk-right s) (under-cases b (walkOf s))
 
 -- the low byte of the first range is a letter
 pub first-letter : (s : List ℕ) → 1 ≤ countOf s 0 → letterOk s (recordAt s 0 0) ≡ true → u8At s (recordAt s 0 0) < 256 → HasLetter (sheetOf s)
-unfolding sheetOf letter letterOk spanAt
+unfolding sheetOf tableOf letter letterOk spanAt
 first-letter s h e l =
     let b = u8At s (recordAt s 0 0) in
     let f : Span → Bool = λ r. leb (r .low) b && leb b (r .high) in
-    let a = any-intro (countOf s 0) (λ k. f (spanAt s (0 + k))) 0 h (and-intro (le-leb b b (omega arith)) e) in
-    (b, and-intro (lt-ltb b 256 l) (any-of-table f 0 (countOf s 0) (spanAt s) ∙ a))
+    let a = any-intro (countOf s 0) (λ k. f (ofTable spanAt s 0 (0 + k))) 0 h (and-intro (le-leb b b (omega arith)) e) in
+    (b, and-intro (lt-ltb b 256 l) (any-of-table f 0 (countOf s 0) (ofTable spanAt s 0) ∙ a))

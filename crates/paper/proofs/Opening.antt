@@ -12,15 +12,18 @@ use lib.Seq.{take-length, drop-append-seam}
 use borrow.Author.Tests.{ltb-true, not-true}
 use Rattle.paper.specs.Tests.{anyOf, Every}
 use Rattle.paper.specs.Rows.{stretch, Derives}
+use Rattle.paper.specs.Compare.{sameByte, Same, StandsIn}
 use Rattle.paper.specs.Decide.{fits, accepts}
-use Rattle.paper.specs.Terms.{Place, Known, Unknown}
+use Rattle.paper.specs.Terms.{Place, Known, Unknown, placesOf}
 use Rattle.paper.specs.Sheet.{Sheet, Claim, Derived, Contains, Equals, Assertion, Run, secondRun, letter, inside}
 use Rattle.paper.specs.Satisfy.{termWord, Holds, Signed, Met, Letters, Satisfies}
-use Rattle.paper.specs.Open.{termPlaces, Fills, SomeUnknown, CanHold, CanFail, Can, Possible, Open}
-use Rattle.paper.specs.Opens.{allows, pattern, meet, canHold, isUnknown, canFail, can, possible, opens}
+use Rattle.paper.specs.Open.{termOn, Fills, SomeUnknown, CanHold, CanFail, Can, Possible, Open}
+use Rattle.paper.specs.Opens.{pattern, meet, canHold, isUnknown, canFail, can, possible, opensOn, opens}
 use Rattle.paper.proofs.Tests.{and-intro, and-left, and-right, or-left, or-right, or-cases, true-or-false, any-intro, any-elim, all-intro, all-elim, all-of-every, every-all-of, every-map, every-right, any-of-append, eqb-same, same-eqb}
+use Rattle.paper.proofs.Comparing.{byte-refl, same-length, at-same}
+use Rattle.paper.proofs.Spelling.{spelled, spells-derives}
 use Rattle.paper.proofs.Derivation.{stretch-length, accepts-right}
-use Rattle.paper.proofs.Filling.{unknown-or-known, unknown-left, unknown-right, known-no-unknown, some-unknown, unknown-some, known-injective, fills-known, fills-only, fills-length, fills-append, fills-take, fills-drop, fills-cons, fills-below, fits-drop, fits-fills, fills-fits, prefix-fills, places-known}
+use Rattle.paper.proofs.Filling.{unknown-or-known, unknown-left, unknown-right, known-no-unknown, some-unknown, unknown-some, known-injective, fills-known, fills-only, fills-length, fills-append, fills-take, fills-drop, allows-fills, fills-allows, fills-below, fits-drop, fits-fills, fills-fits, prefix-fills, places-known}
 
 -- some word fills the places: so where no place is unknown, and where there is a letter
 abbrev pub Fillable : Sheet → List Place → Type 0
@@ -37,52 +40,60 @@ module _ (s : Sheet) where
   can-derive r T e =
       let w = (accepts-right (s .grammar) (pattern s T) (length T) 0 r) .0 e in
       let n : length (w .word) ≡ length T = w .long in
-      (w .word, rw (n, take-length) at (fits-fills s T (w .word) (omega arith) (w .fit)), w .derived)
+      let f = fits-fills s T (w .word) (omega arith) (w .fit) in
+      let k : take (length (w .word)) T ≡ T = rw (n, take-length) in
+      (f .0, subst (λ (U : List Place). Fills s U (f .0)) k (f .2), spells-derives (s .grammar) (w .spelled) (f .0) (f .1))
 
   derive-can : (r : ℕ) {T : List Place} {t : List ℕ} → Fills s T t → Derives (s .grammar) r t → accepts (s .grammar) (pattern s T) (length T) 0 r ≡ true
   derive-can r {T} {t} f d =
+      let x = spelled (s .grammar) d in
       (accepts-right (s .grammar) (pattern s T) (length T) 0 r) .1
-      (record { word = t; long = fills-length s f; fit = fills-fits s f t [] (sym (append-nil t)); derived = d })
+      (record { word = x .word; long = same-length (x .word) t (x .same) ∙ fills-length s f; fit = fills-fits s f (x .word) t [] (sym (append-nil t)) (x .same); spelled = x .spells })
 
   -- a word at place i of the term, the other places filled somehow
-  can-contain : (T : List Place) (i : ℕ) (m : List ℕ) → i + length m ≤ length T → fits (pattern s T) i m ≡ true → Fillable s T
-      → (x : List ℕ) × (y : List ℕ) × Fills s T (x ++ (m ++ y))
-  can-contain T i m h e (t, f) =
-      let g = fits-fills s (drop i T) m (rw length-drop (omega arith)) (sym (fits-drop s T i m (omega arith)) ∙ e) in
-      let k : take i T ++ (take (length m) (drop i T) ++ drop (length m) (drop i T)) ≡ T = rw (take-append-drop (length m) (drop i T)) (take-append-drop i T) in (
-        take i t,
-        drop (length m) (drop i t),
-        subst (λ (U : List Place). Fills s U (take i t ++ (m ++ drop (length m) (drop i t)))) k
-            (fills-append s (fills-take s f i) (fills-append s g (fills-drop s (fills-drop s f i) (length m)))),
+  can-contain : (T : List Place) (i : ℕ) (u : List ℕ) → i + length u ≤ length T → fits (pattern s T) i u ≡ true → Fillable s T → (t : List ℕ) × Fills s T t × StandsIn u t
+  can-contain T i u h e (t, f) =
+      let m = fits-fills s (drop i T) u (rw length-drop (omega arith)) (sym (fits-drop s T i u (omega arith)) ∙ e) in
+      let k : take i T ++ (take (length u) (drop i T) ++ drop (length u) (drop i T)) ≡ T = rw (take-append-drop (length u) (drop i T)) (take-append-drop i T) in
+      let z = take i t ++ (m .0 ++ drop (length u) (drop i t)) in (
+        z,
+        subst (λ (U : List Place). Fills s U z) k (fills-append s (fills-take s f i) (fills-append s (m .2) (fills-drop s (fills-drop s f i) (length u)))),
+        record { before = take i t; middle = m .0; behind = drop (length u) (drop i t); joined = refl; same = m .1 },
       )
 
-  contain-can : {T : List Place} (x m y : List ℕ) → Fills s T (x ++ (m ++ y)) → (length x + length m ≤ length T) × (fits (pattern s T) (length x) m ≡ true)
-  contain-can {T} x m y f =
-      let n = fills-length s f in
-      let l : length x + length m ≤ length T = omega (arith, length-append x (m ++ y), length-append m y) in
-      (l, fits-drop s T (length x) m (omega arith) ∙ fills-fits s (fills-drop s f (length x)) m y (drop-append-seam x (m ++ y)))
+  contain-can : {T : List Place} {t : List ℕ} (u : List ℕ) → Fills s T t → (h : StandsIn u t)
+      → (length (h .before) + length u ≤ length T) × (fits (pattern s T) (length (h .before)) u ≡ true)
+  contain-can {T} {t} u f h =
+      let x = h .before in
+      let m = h .middle in
+      let y = h .behind in
+      let g : Fills s T (x ++ (m ++ y)) = rw (h .joined) at f in
+      let n = fills-length s g in
+      let k = same-length u m (h .same) in
+      let l : length x + length u ≤ length T = omega (arith, length-append x (m ++ y), length-append m y) in
+      (l, fits-drop s T (length x) u (omega arith) ∙ fills-fits s (fills-drop s g (length x)) u m y (drop-append-seam x (m ++ y)) (h .same))
 
-  meet-byte : (P Q : Place) → meet s P Q ≡ true → (b : ℕ) × (allows s P b ≡ true) × (allows s Q b ≡ true)
-  unfolding meet allows
-  meet-byte (Known x) Q e = (x, same-eqb x x refl, e)
-  meet-byte Unknown (Known y) e = (y, e, same-eqb y y refl)
-  meet-byte Unknown Unknown e = let r = any-elim 256 (letter s) e in (r .0, r .2, r .2)
+  meet-fills : (P Q : Place) → meet s P Q ≡ true → (b : ℕ) × (c : ℕ) × (sameByte b c ≡ true) × Fills s (P ∷ []) (b ∷ []) × Fills s (Q ∷ []) (c ∷ [])
+  unfolding meet
+  meet-fills (Known x) Q e = let c = allows-fills s Q x e in (x, c .0, c .1, Fills.known Fills.none, c .2)
+  meet-fills Unknown (Known y) e = (y, y, byte-refl y, Fills.filled e Fills.none, Fills.known Fills.none)
+  meet-fills Unknown Unknown e = let r = any-elim 256 (letter s) e in (r .0, r .0, byte-refl (r .0), Fills.filled (r .2) Fills.none, Fills.filled (r .2) Fills.none)
 
-  byte-meet : (P Q : Place) (b : ℕ) → allows s P b ≡ true → allows s Q b ≡ true → meet s P Q ≡ true
-  unfolding meet allows
-  byte-meet (Known x) Q b e f = rw (eqb-same b x e) at f
-  byte-meet Unknown (Known y) b e f = rw (eqb-same b y f) at e
-  byte-meet Unknown Unknown b e f = any-intro 256 (letter s) b (letter-byte s b e) e
+  fills-meet : {P Q : Place} {b c : ℕ} → Fills s (P ∷ []) (b ∷ []) → Fills s (Q ∷ []) (c ∷ []) → sameByte b c ≡ true → meet s P Q ≡ true
+  unfolding meet
+  fills-meet (Fills.known {b = b} f) g e = fills-allows s g b e
+  fills-meet (Fills.filled {b = b} l f) (Fills.known {b = c} g) e = rw (eqb-same b c e) at l
+  fills-meet (Fills.filled {b = b} l f) (Fills.filled m g) e = any-intro 256 (letter s) b (letter-byte s b l) l
 
   can-equal : (T U : List Place) → length T ≡ length U → ((i : ℕ) → i < length T → meet s (getD T i Unknown) (getD U i Unknown) ≡ true)
-      → (t : List ℕ) × Fills s T t × Fills s U t
-  can-equal [] [] n h = ([], Fills.none, Fills.none)
+      → (t : List ℕ) × (u : List ℕ) × Fills s T t × Fills s U u × Same t u
+  can-equal [] [] n h = ([], [], Fills.none, Fills.none, tt)
   can-equal [] (Q ∷ U) n h = absurd (omega arith)
   can-equal (P ∷ T) [] n h = absurd (omega arith)
   can-equal (P ∷ T) (Q ∷ U) n h =
-      let b = meet-byte P Q (h 0 (omega arith)) in
+      let b = meet-fills P Q (h 0 (omega arith)) in
       let r = can-equal T U (omega arith) (λ i l. h (suc i) (omega arith)) in
-      (b .0 ∷ r .0, fills-cons s P (b .0) (b .1) (r .1), fills-cons s Q (b .0) (b .2) (r .2))
+      (b .0 ∷ r .0, b .1 ∷ r .1, fills-append s (b .3) (r .2), fills-append s (b .4) (r .3), (b .2, r .4))
 
   -- where each term can be filled somehow, a claim that passes holds of some fillings
   can-hold : (c : Claim) (T U : List Place) → Fillable s T → Fillable s U → canHold s c T U ≡ true → CanHold s c T U
@@ -93,26 +104,24 @@ module _ (s : Sheet) where
       let z = any-elim (suc (length T) - b) (λ i. fits (pattern s T) i m) e in
       let l : z .0 < suc (length T) - b = z .1 in
       let d = can-contain T (z .0) m (omega (arith, stretch-length (s .grammar .text) a b)) (z .2) f in
-      (d .0 ++ (m ++ d .1), g .0, d .2, g .1, (d .0, d .1, refl))
+      (d .0, g .0, d .1, g .1, d .2)
   can-hold (Equals a b) T U f g e =
-      let d =
       can-equal T U (eqb-same (length T) (length U) (and-left _ _ e))
-      (all-elim (length T) (λ i. meet s (getD T i Unknown) (getD U i Unknown)) (and-right (eqb (length T) (length U)) _ e)) in
-      (d .0, d .0, d .1, d .2, refl)
+      (all-elim (length T) (λ i. meet s (getD T i Unknown) (getD U i Unknown)) (and-right (eqb (length T) (length U)) _ e))
 
   -- a claim that holds of some fillings passes
   hold-can : (c : Claim) (T U : List Place) → CanHold s c T U → canHold s c T U ≡ true
   unfolding canHold
   hold-can (Derived r) T U (t, u, f, g, h) = derive-can r f h
-  hold-can (Contains a b) T U (t, u, f, g, (x, y, e)) =
+  hold-can (Contains a b) T U (t, u, f, g, h) =
       let m = stretch 0 (s .grammar .text) a b in
-      let z = contain-can x m y (rw e at f) in
-      any-intro (suc (length T) - b) (λ i. fits (pattern s T) i m) (length x) (omega (arith, z .0, stretch-length (s .grammar .text) a b)) (z .1)
+      let z = contain-can m f h in
+      any-intro (suc (length T) - b) (λ i. fits (pattern s T) i m) (length (h .before)) (omega (arith, z .0, stretch-length (s .grammar .text) a b)) (z .1)
   hold-can (Equals a b) T U (t, u, f, g, e) =
-      let n : length T ≡ length U = omega (arith, fills-length s f, fills-length s g, ap length e) in
+      let n : length T ≡ length U = omega (arith, fills-length s f, fills-length s g, same-length t u e) in
       and-intro (same-eqb (length T) (length U) n)
       (all-intro (length T) (λ i. meet s (getD T i Unknown) (getD U i Unknown))
-      (λ i l. byte-meet (getD T i Unknown) (getD U i Unknown) (getD t i 0) (fills-below s f Unknown i l) (rw e (fills-below s g Unknown i (omega arith)))))
+      (λ i l. fills-meet (fills-below s f Unknown i l) (fills-below s g Unknown i (omega arith)) (at-same t u e i (omega (arith, fills-length s f)))))
 
   -- a claim of known words can hold exactly when it holds
   known-hold : (c : Claim) (t u : List ℕ) → CanHold s c (map Known t) (map Known u) ↔ Holds s c t u
@@ -186,32 +195,32 @@ module _ (s : Sheet) where
   module _ (n : ℕ) (p : List ℕ) where
     -- an open prefix passes
     pub open-opens : Open s n p → opens s n p ≡ true
-    unfolding opens possible can
+    unfolding opens opensOn possible can
     open-opens o =
-        every-all-of (possible s n p) (Possible s n p)
-        (λ a h. and-intro (h .within) (signed-can (a .denied) (a .claim) (termPlaces s n p (a .term)) (termPlaces s n p (secondRun (a .claim))) (h .can)))
+        every-all-of (possible s n (placesOf n p)) (Possible s n (placesOf n p))
+        (λ a h. and-intro (h .within) (signed-can (a .denied) (a .claim) (termOn s (placesOf n p) (a .term)) (termOn s (placesOf n p) (secondRun (a .claim))) (h .can)))
         (s .assertions) o
 
     -- a prefix that passes is open, where its terms can be filled somehow
-    pub opens-open : ((r : Run) → Fillable s (termPlaces s n p r)) → opens s n p ≡ true → Open s n p
-    unfolding opens possible can
+    pub opens-open : ((r : Run) → Fillable s (termOn s (placesOf n p) r)) → opens s n p ≡ true → Open s n p
+    unfolding opens opensOn possible can
     opens-open f e =
-        all-of-every (possible s n p) (Possible s n p)
+        all-of-every (possible s n (placesOf n p)) (Possible s n (placesOf n p))
         (λ a h. record {
           within = and-left (inside s n a) _ h;
-          can = can-signed (a .denied) (a .claim) (termPlaces s n p (a .term)) (termPlaces s n p (secondRun (a .claim))) (f (a .term)) (f (secondRun (a .claim))) (and-right (inside s n a) _ h);
+          can = can-signed (a .denied) (a .claim) (termOn s (placesOf n p) (a .term)) (termOn s (placesOf n p) (secondRun (a .claim))) (f (a .term)) (f (secondRun (a .claim))) (and-right (inside s n a) _ h);
         })
         (s .assertions) e
 
   -- ---- at a full prefix
 
-  full-fillable : (w : List ℕ) (r : Run) → Fillable s (termPlaces s (length w) w r)
+  full-fillable : (w : List ℕ) (r : Run) → Fillable s (termOn s (placesOf (length w) w) r)
   full-fillable w r = (termWord s w r, rw places-known (fills-known s (termWord s w r)))
 
   pub opens-full : (w : List ℕ) → (opens s (length w) w ≡ true) ↔ Open s (length w) w
   opens-full w = (opens-open (length w) w (full-fillable w), open-opens (length w) w)
 
-  possible-met : (w : List ℕ) (a : Assertion) → Possible s (length w) w a ↔ Met s w a
+  possible-met : (w : List ℕ) (a : Assertion) → Possible s (length w) (placesOf (length w) w) a ↔ Met s w a
   possible-met w a =
       let k = known-signed (a .denied) (a .claim) (termWord s w (a .term)) (termWord s w (secondRun (a .claim))) in (
         λ h. record { within = h .within; holds = k .0 (rw (places-known s w (a .term), places-known s w (secondRun (a .claim))) at (h .can)) },
@@ -220,8 +229,8 @@ module _ (s : Sheet) where
 
   pub open-full : (w : List ℕ) → Open s (length w) w ↔ Every (Met s w) (s .assertions)
   open-full w = (
-    every-map (Possible s (length w) w) (Met s w) (λ a. possible-met w a .0) (s .assertions),
-    every-map (Met s w) (Possible s (length w) w) (λ a. possible-met w a .1) (s .assertions),
+    every-map (Possible s (length w) (placesOf (length w) w)) (Met s w) (λ a. possible-met w a .0) (s .assertions),
+    every-map (Met s w) (Possible s (length w) (placesOf (length w) w)) (λ a. possible-met w a .1) (s .assertions),
   )
 
   -- ---- below a key that satisfies
@@ -233,10 +242,10 @@ module _ (s : Sheet) where
   pub prefix-open : (p v : List ℕ) → Satisfies s (p ++ v) → Open s (length (p ++ v)) p
   prefix-open p v h =
       let l : Letters s v = every-right (λ b. letter s b ≡ true) p v (h .letters) in
-      every-map (Met s (p ++ v)) (Possible s (length (p ++ v)) p)
+      every-map (Met s (p ++ v)) (Possible s (length (p ++ v)) (placesOf (length (p ++ v)) p))
       (λ a m. record {
         within = m .within;
-        can = prefix-can (a .denied) (a .claim) (termPlaces s (length (p ++ v)) p (a .term)) (termPlaces s (length (p ++ v)) p (secondRun (a .claim)))
+        can = prefix-can (a .denied) (a .claim) (termOn s (placesOf (length (p ++ v)) p) (a .term)) (termOn s (placesOf (length (p ++ v)) p) (secondRun (a .claim)))
             (termWord s (p ++ v) (a .term)) (termWord s (p ++ v) (secondRun (a .claim))) (prefix-fills s p v l (a .term)) (prefix-fills s p v l (secondRun (a .claim))) (m .holds);
       })
       (s .assertions) (h .met)

@@ -13,6 +13,7 @@ use Rattle.paper.specs.Tests.{anyBelow}
 use Rattle.paper.proofs.Tests.{any-intro, any-elim, and-intro, and-left, and-right, or-left, or-right, or-cases, same-test, eqb-same, same-eqb}
 use Rattle.paper.proofs.Closure.{Monotone, closure-closed, closure-least}
 use Rattle.paper.specs.Rows.{Row, Empty, Range, Text, Alt, Seq, Star, Grammar, row, stretch, Derives, Keeps, Reach}
+use Rattle.paper.proofs.Spelling.{Spells, spelled, spells-itself, spells-nil}
 use Rattle.paper.specs.Decide.{nullRow, nullRule, nullable, reachRow, reachRule, carried, reaches}
 
 -- ---- a row that derives a word is in the table
@@ -21,18 +22,18 @@ pub outside : (g : Grammar) (r : ℕ) → length (g .rows) ≤ r → row g r ≡
 unfolding row
 outside g r h = List·getD-eq-default (g .rows) (Range 1 0) h
 
-none-derives : (g : Grammar) {r : ℕ} {w : List ℕ} → row g r ≡ Range 1 0 → Derives g r w → ⊥
-none-derives g o (Derives.empty e) = let z : _≡_ {A = ℕ} 0 1 = cc in omega arith
-none-derives g o (Derives.range {lo = lo} {hi = hi} e l h) =
+none-spells : (g : Grammar) {r : ℕ} {w : List ℕ} → row g r ≡ Range 1 0 → Spells g r w → ⊥
+none-spells g o (Spells.empty e) = let z : _≡_ {A = ℕ} 0 1 = cc in omega arith
+none-spells g o (Spells.range {lo = lo} {hi = hi} e l h) =
     let p : lo ≡ 1 = cc in
     let q : hi ≡ 0 = cc in
     omega arith
-none-derives g o (Derives.text e) = let z : _≡_ {A = ℕ} 0 1 = cc in omega arith
-none-derives g o (Derives.alt-left e d) = let z : _≡_ {A = ℕ} 0 1 = cc in omega arith
-none-derives g o (Derives.alt-right e d) = let z : _≡_ {A = ℕ} 0 1 = cc in omega arith
-none-derives g o (Derives.seq e c d) = let z : _≡_ {A = ℕ} 0 1 = cc in omega arith
-none-derives g o (Derives.star-none e) = let z : _≡_ {A = ℕ} 0 1 = cc in omega arith
-none-derives g o (Derives.star-more e c d) = let z : _≡_ {A = ℕ} 0 1 = cc in omega arith
+none-spells g o (Spells.text e) = let z : _≡_ {A = ℕ} 0 1 = cc in omega arith
+none-spells g o (Spells.alt-left e d) = let z : _≡_ {A = ℕ} 0 1 = cc in omega arith
+none-spells g o (Spells.alt-right e d) = let z : _≡_ {A = ℕ} 0 1 = cc in omega arith
+none-spells g o (Spells.seq e c d) = let z : _≡_ {A = ℕ} 0 1 = cc in omega arith
+none-spells g o (Spells.star-none e) = let z : _≡_ {A = ℕ} 0 1 = cc in omega arith
+none-spells g o (Spells.star-more e c d) = let z : _≡_ {A = ℕ} 0 1 = cc in omega arith
 
 none-keeps : (g : Grammar) {r q : ℕ} → row g r ≡ Range 1 0 → Keeps g r q → ⊥
 none-keeps g o (Keeps.keep-left e) = let z : _≡_ {A = ℕ} 0 1 = cc in omega arith
@@ -41,8 +42,11 @@ none-keeps g o (Keeps.keep-first e d) = let z : _≡_ {A = ℕ} 0 1 = cc in omeg
 none-keeps g o (Keeps.keep-second e d) = let z : _≡_ {A = ℕ} 0 1 = cc in omega arith
 none-keeps g o (Keeps.keep-star e) = let z : _≡_ {A = ℕ} 0 1 = cc in omega arith
 
+pub spells-below : (g : Grammar) {r : ℕ} {w : List ℕ} → Spells g r w → r < length (g .rows)
+spells-below g {r} d = lt-of-not-le (λ h. none-spells g (outside g r h) d)
+
 pub derives-below : (g : Grammar) {r : ℕ} {w : List ℕ} → Derives g r w → r < length (g .rows)
-derives-below g {r} d = lt-of-not-le (λ h. none-derives g (outside g r h) d)
+derives-below g d = spells-below g (spelled g d .spells)
 
 pub keeps-below : (g : Grammar) {r q : ℕ} → Keeps g r q → r < length (g .rows)
 keeps-below g {r} d = lt-of-not-le (λ h. none-keeps g (outside g r h) d)
@@ -69,24 +73,24 @@ null-closed : (g : Grammar) (r : ℕ) → r < length (g .rows) → nullRow (null
 unfolding nullable nullRule
 null-closed g r l e = closure-closed (length (g .rows)) (nullRule g) (null-mono g) r l e
 
-pub nullable-sound : (g : Grammar) (r : ℕ) → nullable g r ≡ true → Derives g r []
+pub null-spells : (g : Grammar) (r : ℕ) → nullable g r ≡ true → Spells g r []
 unfolding nullable nullRule nullRow stretch
-nullable-sound g r e = closure-least (length (g .rows)) (nullRule g) (λ k. Derives g k []) keeps r e
+null-spells g r e = closure-least (length (g .rows)) (nullRule g) (λ k. Spells g k []) keeps r e
   where
-    keeps : (s : ℕ → Bool) → ((j : ℕ) → s j ≡ true → Derives g j []) → (k : ℕ) → k < length (g .rows) → nullRule g s k ≡ true → Derives g k []
+    keeps : (s : ℕ → Bool) → ((j : ℕ) → s j ≡ true → Spells g j []) → (k : ℕ) → k < length (g .rows) → nullRule g s k ≡ true → Spells g k []
     keeps s ih k l h = go (row g k) refl h
       where
-        go : (x : Row) → row g k ≡ x → nullRow s x ≡ true → Derives g k []
-        go Empty p q = Derives.empty p
+        go : (x : Row) → row g k ≡ x → nullRow s x ≡ true → Spells g k []
+        go Empty p q = Spells.empty p
         go (Range lo hi) p q = absurd (true≢false (sym q))
-        go (Text off len) p q = Derives.text {len = zero} (p ∙ ap (Text off) (eqb-same len 0 q))
+        go (Text off len) p q = Spells.text {len = zero} (p ∙ ap (Text off) (eqb-same len 0 q))
         go (Alt a b) p q = by (or-cases (s a) (s b) q)
           where
-            by : (s a ≡ true) ⊎ (s b ≡ true) → Derives g k []
-            by (inl z) = Derives.alt-left p (ih a z)
-            by (inr z) = Derives.alt-right p (ih b z)
-        go (Seq a b) p q = Derives.seq p (ih a (and-left (s a) (s b) q)) (ih b (and-right (s a) (s b) q))
-        go (Star a) p q = Derives.star-none p
+            by : (s a ≡ true) ⊎ (s b ≡ true) → Spells g k []
+            by (inl z) = Spells.alt-left p (ih a z)
+            by (inr z) = Spells.alt-right p (ih b z)
+        go (Seq a b) p q = Spells.seq p (ih a (and-left (s a) (s b) q)) (ih b (and-right (s a) (s b) q))
+        go (Star a) p q = Spells.star-none p
 
 append-empty : (u v : List ℕ) → u ++ v ≡ [] → (u ≡ []) × (v ≡ [])
 append-empty [] v e = (refl, e)
@@ -98,23 +102,29 @@ stretch-empty t off zero e = refl
 stretch-empty t off (suc n) e = absurd (let z : _≡_ {A = ℕ} 0 1 = cc in omega arith)
 
 -- a row with the text x is nullable where x is, over the nullable rows
-null-by : (g : Grammar) {r : ℕ} {w : List ℕ} (x : Row) → Derives g r w → row g r ≡ x → nullRow (nullable g) x ≡ true → nullable g r ≡ true
-null-by g {r} x d e h = null-closed g r (derives-below g d) (rw e h)
+null-by : (g : Grammar) {r : ℕ} {w : List ℕ} (x : Row) → Spells g r w → row g r ≡ x → nullRow (nullable g) x ≡ true → nullable g r ≡ true
+null-by g {r} x d e h = null-closed g r (spells-below g d) (rw e h)
 
-pub nullable-from : (g : Grammar) {r : ℕ} {w : List ℕ} → Derives g r w → w ≡ [] → nullable g r ≡ true
+pub spells-null : (g : Grammar) {r : ℕ} {w : List ℕ} → Spells g r w → w ≡ [] → nullable g r ≡ true
 unfolding nullRow
-nullable-from g (Derives.empty e) q = null-by g Empty (Derives.empty e) e refl
-nullable-from g (Derives.range e l h) q = absurd (let z : _≡_ {A = ℕ} 0 1 = cc in omega arith)
-nullable-from g (Derives.text {off = off} {len = len} e) q = null-by g (Text off len) (Derives.text e) e (same-eqb len 0 (stretch-empty (g .text) off len q))
-nullable-from g (Derives.alt-left {a = a} {b = b} e c) q = null-by g (Alt a b) (Derives.alt-left e c) e (or-left (nullable g a) (nullable g b) (nullable-from g c q))
-nullable-from g (Derives.alt-right {a = a} {b = b} e c) q = null-by g (Alt a b) (Derives.alt-right e c) e (or-right (nullable g a) (nullable g b) (nullable-from g c q))
-nullable-from g (Derives.seq {a = a} {b = b} {u = u} {v = v} e c d) q =
-    null-by g (Seq a b) (Derives.seq e c d) e (and-intro (nullable-from g c ((append-empty u v q) .0)) (nullable-from g d ((append-empty u v q) .1)))
-nullable-from g (Derives.star-none {a = a} e) q = null-by g (Star a) (Derives.star-none e) e refl
-nullable-from g (Derives.star-more {a = a} e c d) q = null-by g (Star a) (Derives.star-more e c d) e refl
+spells-null g (Spells.empty e) q = null-by g Empty (Spells.empty e) e refl
+spells-null g (Spells.range e l h) q = absurd (let z : _≡_ {A = ℕ} 0 1 = cc in omega arith)
+spells-null g (Spells.text {off = off} {len = len} e) q = null-by g (Text off len) (Spells.text e) e (same-eqb len 0 (stretch-empty (g .text) off len q))
+spells-null g (Spells.alt-left {a = a} {b = b} e c) q = null-by g (Alt a b) (Spells.alt-left e c) e (or-left (nullable g a) (nullable g b) (spells-null g c q))
+spells-null g (Spells.alt-right {a = a} {b = b} e c) q = null-by g (Alt a b) (Spells.alt-right e c) e (or-right (nullable g a) (nullable g b) (spells-null g c q))
+spells-null g (Spells.seq {a = a} {b = b} {u = u} {v = v} e c d) q =
+    null-by g (Seq a b) (Spells.seq e c d) e (and-intro (spells-null g c ((append-empty u v q) .0)) (spells-null g d ((append-empty u v q) .1)))
+spells-null g (Spells.star-none {a = a} e) q = null-by g (Star a) (Spells.star-none e) e refl
+spells-null g (Spells.star-more {a = a} e c d) q = null-by g (Star a) (Spells.star-more e c d) e refl
+
+null-derives : (g : Grammar) (r : ℕ) → nullable g r ≡ true → Derives g r []
+null-derives g r e = spells-itself g (null-spells g r e)
+
+derives-null : (g : Grammar) {r : ℕ} → Derives g r [] → nullable g r ≡ true
+derives-null g d = spells-null g (spells-nil g d) refl
 
 pub nullable-right : (g : Grammar) (r : ℕ) → (nullable g r ≡ true) ↔ Derives g r []
-nullable-right g r = (nullable-sound g r, λ d. nullable-from g d refl)
+nullable-right g r = (null-derives g r, derives-null g)
 
 -- ---- reaches: by steps that keep the length
 
@@ -168,8 +178,8 @@ carried-sound g seed r e = closure-least (length (g .rows)) (reachRule g seed) (
         go (Seq a b) p z = by (or-cases (nullable g b && s a) (nullable g a && s b) z)
           where
             by : ((nullable g b && s a) ≡ true) ⊎ ((nullable g a && s b) ≡ true) → Reached g seed k
-            by (inl y) = reached-step g seed (Keeps.keep-first p (nullable-sound g b (and-left (nullable g b) (s a) y))) (ih a (and-right (nullable g b) (s a) y))
-            by (inr y) = reached-step g seed (Keeps.keep-second p (nullable-sound g a (and-left (nullable g a) (s b) y))) (ih b (and-right (nullable g a) (s b) y))
+            by (inl y) = reached-step g seed (Keeps.keep-first p (null-derives g b (and-left (nullable g b) (s a) y))) (ih a (and-right (nullable g b) (s a) y))
+            by (inr y) = reached-step g seed (Keeps.keep-second p (null-derives g a (and-left (nullable g a) (s b) y))) (ih b (and-right (nullable g a) (s b) y))
         go (Star a) p z = reached-step g seed (Keeps.keep-star p) (ih a z)
 
         top : (seed k ≡ true) ⊎ (reachRow (nullable g) s (row g k) ≡ true) → Reached g seed k
@@ -180,8 +190,8 @@ reach-by : (g : Grammar) (s : ℕ → Bool) {r p : ℕ} → Keeps g r p → s p 
 unfolding reachRow
 reach-by g s (Keeps.keep-left {a = a} {b = b} e) h = rw e (or-left (s a) (s b) h)
 reach-by g s (Keeps.keep-right {a = a} {b = b} e) h = rw e (or-right (s a) (s b) h)
-reach-by g s (Keeps.keep-first {a = a} {b = b} e d) h = rw e (or-left (nullable g b && s a) (nullable g a && s b) (and-intro (nullable-from g d refl) h))
-reach-by g s (Keeps.keep-second {a = a} {b = b} e d) h = rw e (or-right (nullable g b && s a) (nullable g a && s b) (and-intro (nullable-from g d refl) h))
+reach-by g s (Keeps.keep-first {a = a} {b = b} e d) h = rw e (or-left (nullable g b && s a) (nullable g a && s b) (and-intro (derives-null g d) h))
+reach-by g s (Keeps.keep-second {a = a} {b = b} e d) h = rw e (or-right (nullable g b && s a) (nullable g a && s b) (and-intro (derives-null g d) h))
 reach-by g s (Keeps.keep-star e) h = rw e h
 
 carried-closed : (g : Grammar) (seed : ℕ → Bool) (r : ℕ) → r < length (g .rows) → (seed r || reachRow (nullable g) (carried g seed) (row g r)) ≡ true → carried g seed r ≡ true
@@ -215,15 +225,15 @@ carried-any g seed r = same-test _ _ there back
         let z = any-elim (length (g .rows)) (λ q. reaches g r q && seed q) e in
         carried-from g seed (z .1) (reaches-sound g r (z .0) (and-left (reaches g r (z .0)) _ (z .2))) (and-right (reaches g r (z .0)) _ (z .2))
 
--- ---- a step that keeps the length hands a derivation back
+-- ---- a step that keeps the length hands a spelling back
 
-keeps-derives : (g : Grammar) {r p : ℕ} {w : List ℕ} → Keeps g r p → Derives g p w → Derives g r w
-keeps-derives g (Keeps.keep-left e) d = Derives.alt-left e d
-keeps-derives g (Keeps.keep-right e) d = Derives.alt-right e d
-keeps-derives g {w = w} (Keeps.keep-first e z) d = rw append-nil at (Derives.seq e d z)
-keeps-derives g (Keeps.keep-second e z) d = Derives.seq e z d
-keeps-derives g (Keeps.keep-star e) d = rw append-nil at (Derives.star-more e d (Derives.star-none e))
+keeps-spells : (g : Grammar) {r p : ℕ} {w : List ℕ} → Keeps g r p → Spells g p w → Spells g r w
+keeps-spells g (Keeps.keep-left e) d = Spells.alt-left e d
+keeps-spells g (Keeps.keep-right e) d = Spells.alt-right e d
+keeps-spells g {w = w} (Keeps.keep-first e z) d = rw append-nil at (Spells.seq e d (spells-nil g z))
+keeps-spells g (Keeps.keep-second e z) d = Spells.seq e (spells-nil g z) d
+keeps-spells g (Keeps.keep-star e) d = rw append-nil at (Spells.star-more e d (Spells.star-none e))
 
-pub reach-derives : (g : Grammar) {r q : ℕ} {w : List ℕ} → Reach g r q → Derives g q w → Derives g r w
-reach-derives g Reach.here d = d
-reach-derives g (Reach.step k s) d = keeps-derives g k (reach-derives g s d)
+pub reach-spells : (g : Grammar) {r q : ℕ} {w : List ℕ} → Reach g r q → Spells g q w → Spells g r w
+reach-spells g Reach.here d = d
+reach-spells g (Reach.step k s) d = keeps-spells g k (reach-spells g s d)

@@ -5,7 +5,7 @@ use mathlib.Core.List.{List, [], _∷_, _++_}
 use lib.Dec.{eqb, leb, ltb}
 use lib.ListN.{length, drop, replicate}
 use Rattle.paper.specs.Trailer.{countOf, longest, limit}
-use Rattle.paper.specs.Refusals.{unless, refusal}
+use Rattle.paper.specs.Refusals.{unless, latest, refusal}
 use Rattle.paper.specs.Sheet.{Sheet, sheetOf, grammarOf, letter}
 use Rattle.paper.specs.Opens.{opens}
 use Rattle.paper.specs.Walk.{Walked, found, none, count, walk}
@@ -77,10 +77,10 @@ under budget w = whether (ltb budget (count w)) (Spent budget) (whole w)
 -- 10 to 19: 18 a workspace of too few words, 19 an output shorter than the longest length
 unfoldable pub solverRefusal : (s : List ℕ) (work out : ℕ) → ℕ
 solverRefusal s work out =
-    cond (eqb (refusal s) 0)
+    cond (eqb (refusal latest s) 0)
     (unless 18 (leb words work)
     (unless 19 (leb (longest s) out) 0))
-    (refusal s)
+    (refusal latest s)
 
 -- what the solver says of a sheet and a budget, lent so many words and bytes
 unfoldable pub solverSays : (s : List ℕ) (budget work out : ℕ) → Said
@@ -94,11 +94,11 @@ solverSays s budget work out =
 -- 10 to 17, then 20 to 22: the row is not in the sheet, the length is above 60, the list is longer than the space
 unfoldable pub makerRefusal : (s : List ℕ) (row n space : ℕ) → ℕ
 makerRefusal s row n space =
-    cond (eqb (refusal s) 0)
+    cond (eqb (refusal latest s) 0)
     (unless 20 (ltb row (countOf s 2))
     (unless 21 (leb n limit)
     (unless 22 (leb (length (cutList (grammarOf s) row n)) space) 0)))
-    (refusal s)
+    (refusal latest s)
 
 -- what is reported: the number, the list's length
 pub record MakerReport : Type 0 where

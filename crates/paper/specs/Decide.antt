@@ -5,6 +5,7 @@ use mathlib.Core.List.{List, [], _∷_}
 use lib.Dec.{eqb}
 use lib.ListN.{length, getD}
 use Rattle.paper.specs.Tests.{anyBelow, tableFrom}
+use Rattle.paper.specs.Compare.{sameByte}
 use Rattle.paper.specs.Rows.{Row, Empty, Range, Text, Alt, Seq, Star, Grammar, row, stretch}
 
 -- ---- the least set of numbers below R that a rule puts in, found by R rounds from the empty set; a set is a list of R tests
@@ -62,10 +63,6 @@ reaches g r q = carried g (λ p. eqb p q) r
 
 abbrev pub Pattern : Type 0
 Pattern = ℕ → ℕ → Bool
-
--- the byte b of a row, a constant or a second term is the byte c
-abbrev pub sameByte : ℕ → ℕ → Bool
-sameByte b c = eqb b c
 
 -- the pattern of a word: each place has its own byte
 unfoldable pub exactly : List ℕ → Pattern

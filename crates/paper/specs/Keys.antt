@@ -1,35 +1,15 @@
 -- "Keys worked through", K1 to K12, and the limits that follow them: one table. Its theorem is `keys-right`, in proofs/Keys.antt.
-use Prim.Native.Nat.{ℕ, _+_, _/_}
+use Prim.Native.Nat.{ℕ, _+_}
 use mathlib.Core.Path.{_≡_}
 use mathlib.Core.List.{List, [], _∷_, _++_}
 use lib.ListN.{length, replicate}
 use Rattle.paper.specs.Bytes.{u16, u32}
+use Rattle.paper.specs.SheetBytes.{record6, record12, sheetBytes}
 use Rattle.paper.specs.Tests.{tableFrom}
 use Rattle.paper.specs.Sheet.{grammarOf}
 use Rattle.paper.specs.Cuts.{cutList}
 use Rattle.paper.specs.Gate.{groupAt}
 use Rattle.paper.specs.Answers.{Said, Found, None, Spent, solverRefusal, solverSays}
-
--- ---- a sheet's bytes from its five tables
-
--- a row's or a part's 6 bytes, an assertion's 12
-unfoldable pub record6 : (kind a b : ℕ) → List ℕ
-record6 kind a b = kind ∷ 0 ∷ u16 a ++ u16 b
-
-unfoldable pub record12 : (kind sign first count a b : ℕ) → List ℕ
-record12 kind sign first count a b = kind ∷ sign ∷ u16 first ++ (u16 count ++ (u16 a ++ (u16 b ++ u16 0)))
-
--- the tables end to end, then the trailer that points back
-unfoldable pub sheetBytes : (shortest longest : ℕ) (letters text rows parts assertions : List ℕ) → List ℕ
-sheetBytes shortest longest letters text rows parts assertions =
-    let a = length letters in
-    let b = a + length text in
-    let c = b + length rows in
-    let d = c + length parts in
-    let e = d + length assertions in
-    letters ++ (text ++ (rows ++ (parts ++ (assertions ++ (u16 shortest ++ (u16 longest ++
-    (u16 0 ++ (u16 (a / 2) ++ (u16 a ++ (u16 (length text) ++ (u16 b ++ (u16 (length rows / 6) ++
-    (u16 c ++ (u16 (length parts / 6) ++ (u16 d ++ (u16 (length assertions / 12) ++ (u32 (e + 32) ++ (80 ∷ 82 ∷ 77 ∷ 49 ∷ []))))))))))))))))))
 
 -- ---- the questions
 

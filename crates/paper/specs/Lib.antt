@@ -1,11 +1,12 @@
 pub mod Bytes
 pub mod Tests
+pub mod Compare
 pub mod Trailer
-pub mod Records
-pub mod Refusals
 pub mod Rows
 pub mod Terms
 pub mod Sheet
+pub mod Records
+pub mod Refusals
 pub mod Satisfy
 pub mod Open
 pub mod Decide
@@ -15,4 +16,5 @@ pub mod Order
 pub mod Cuts
 pub mod Gate
 pub mod Answers
+pub mod SheetBytes
 pub mod Keys

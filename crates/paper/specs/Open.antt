@@ -9,9 +9,9 @@ use Rattle.paper.specs.Terms.{Place, Known, Unknown, placesOf, term}
 use Rattle.paper.specs.Sheet.{Sheet, Claim, Assertion, Run, secondRun, letter, partsOf, inside}
 use Rattle.paper.specs.Satisfy.{Holds}
 
--- the places of a term at length n under the prefix p
-unfoldable pub termPlaces : Sheet → ℕ → List ℕ → Run → List Place
-termPlaces s n p r = term Known (s .grammar .text) (placesOf n p) (partsOf s r)
+-- the places of a term where v has the places W
+unfoldable pub termOn : Sheet → List Place → Run → List Place
+termOn s W r = term Known (s .grammar .text) W (partsOf s r)
 
 -- "a way to fill the unknown bytes .. with letters, each place separately even if it comes from the same place of v"
 pub data Fills (s : Sheet) : List Place → List ℕ → Type 0 where
@@ -35,11 +35,11 @@ abbrev pub Can : Bool → Sheet → Claim → List Place → List Place → Type
 Can false s c T U = CanHold s c T U
 Can true s c T U = CanFail s c T U
 
--- an assertion is possible at n under p; "a cut past n: not possible"
-pub record Possible (s : Sheet) (n : ℕ) (p : List ℕ) (a : Assertion) : Type 0 where
+-- an assertion is possible at n where v has the places W; "a cut past n: not possible"
+pub record Possible (s : Sheet) (n : ℕ) (W : List Place) (a : Assertion) : Type 0 where
   pub within : inside s n a ≡ true
-  pub can : Can (a .denied) s (a .claim) (termPlaces s n p (a .term)) (termPlaces s n p (secondRun (a .claim)))
+  pub can : Can (a .denied) s (a .claim) (termOn s W (a .term)) (termOn s W (secondRun (a .claim)))
 
 -- "a prefix is open when each assertion, taken alone, is possible"
 abbrev pub Open : Sheet → ℕ → List ℕ → Type 0
-Open s n p = Every (Possible s n p) (s .assertions)
+Open s n p = Every (Possible s n (placesOf n p)) (s .assertions)

@@ -6,10 +6,11 @@ use lib.Dec.{eqb}
 use lib.ListN.{length, getD}
 use Rattle.paper.specs.Tests.{anyBelow, allBelow, anyOf, allOf}
 use Rattle.paper.specs.Rows.{stretch}
-use Rattle.paper.specs.Decide.{Pattern, sameByte, fits, accepts}
-use Rattle.paper.specs.Terms.{Place, Known, Unknown}
+use Rattle.paper.specs.Compare.{sameByte}
+use Rattle.paper.specs.Decide.{Pattern, fits, accepts}
+use Rattle.paper.specs.Terms.{Place, Known, Unknown, placesOf}
 use Rattle.paper.specs.Sheet.{Sheet, Claim, Derived, Contains, Equals, Assertion, secondRun, letter, inside}
-use Rattle.paper.specs.Open.{termPlaces}
+use Rattle.paper.specs.Open.{termOn}
 
 -- the bytes that a place may hold: its own, or any letter
 unfoldable pub allows : Sheet → Place → ℕ → Bool
@@ -43,8 +44,14 @@ canFail s c T U = anyOf isUnknown T || (anyOf isUnknown U || not (canHold s c T 
 unfoldable pub can : Sheet → Assertion → List Place → List Place → Bool
 can s a T U = cond (a .denied) (canFail s (a .claim) T U) (canHold s (a .claim) T U)
 
-unfoldable pub possible : Sheet → ℕ → List ℕ → Assertion → Bool
-possible s n p a = inside s n a && can s a (termPlaces s n p (a .term)) (termPlaces s n p (secondRun (a .claim)))
+-- an assertion is possible at n where v has the places W
+unfoldable pub possible : Sheet → ℕ → List Place → Assertion → Bool
+possible s n W a = inside s n a && can s a (termOn s W (a .term)) (termOn s W (secondRun (a .claim)))
 
+-- each assertion is
+unfoldable pub opensOn : Sheet → ℕ → List Place → Bool
+opensOn s n W = allOf (possible s n W) (s .assertions)
+
+-- the prefix p is open at n
 unfoldable pub opens : Sheet → ℕ → List ℕ → Bool
-opens s n p = allOf (possible s n p) (s .assertions)
+opens s n p = opensOn s n (placesOf n p)

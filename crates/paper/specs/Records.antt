@@ -7,6 +7,8 @@ use lib.Dec.{ltb, leb, eqb}
 use Rattle.paper.specs.Bytes.{u8At, u16At}
 use Rattle.paper.specs.Tests.{firstBad}
 use Rattle.paper.specs.Trailer.{countOf, recordAt, longest, limit}
+use Rattle.paper.specs.Terms.{fullLength}
+use Rattle.paper.specs.Sheet.{Run, secondRun, partAt, assertionAt}
 
 -- letters: low at most high
 unfoldable pub letterOk : List ℕ → ℕ → Bool
@@ -70,23 +72,22 @@ tableOk s t = eqb (badRecord s t) (countOf s t)
 abbrev pub badTable : List ℕ → ℕ
 badTable s = firstBad (tableOk s) 5
 
--- 17: the bytes of the part at o at the longest length: all of v has that length, a text or a cut its full b
+-- 17: the bytes of the part at o at the longest length
 unfoldable pub partLen : List ℕ → ℕ → ℕ
-partLen s o = cond (eqb (u8At s o) 2) (longest s) (u16At s (o + 4))
+partLen s o = fullLength (longest s) (partAt s o)
 
 -- the bytes of n parts, the first at o
 unfoldable pub termLen : List ℕ → (o n : ℕ) → ℕ
 termLen s o zero = 0
 termLen s o (suc n) = termLen s o n + partLen s (o + 6 * n)
 
--- the term of n parts from the part `first` on has at most 60 bytes
-abbrev pub termFits : List ℕ → (first n : ℕ) → Bool
-termFits s first n = leb (termLen s (recordAt s 3 first) n) limit
+-- the term of a run of parts has at most 60 bytes
+abbrev pub termFits : List ℕ → Run → Bool
+termFits s r = leb (termLen s (recordAt s 3 (r .first)) (r .count)) limit
 
--- the assertion at o: its term and, for kind 3, the second one
+-- the assertion at o: its term and the second one
 unfoldable pub assertFits : List ℕ → ℕ → Bool
-assertFits s o =
-    termFits s (u16At s (o + 2)) (u16At s (o + 4)) && cond (eqb (u8At s o) 3) (termFits s (u16At s (o + 6)) (u16At s (o + 8))) true
+assertFits s o = termFits s (assertionAt s o .term) && termFits s (secondRun (assertionAt s o .claim))
 
 -- the first assertion with an overlong term, or their number
 abbrev pub badTerm : List ℕ → ℕ

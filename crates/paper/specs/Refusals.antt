@@ -6,7 +6,7 @@ use mathlib.Core.Bool.{Bool, cond}
 use lib.ListN.{length}
 use lib.Dec.{leb, eqb}
 use Rattle.paper.specs.Tests.{firstBad}
-use Rattle.paper.specs.Trailer.{markOk, totalOk, countOk, lengthsOk, offsetsOk, countOf}
+use Rattle.paper.specs.Trailer.{sheetMost, markOk, totalOk, countOk, lengthsOk, offsetsOk, countOf}
 use Rattle.paper.specs.Records.{badTable, badTerm}
 
 -- n unless the test holds, and then what follows
@@ -27,15 +27,19 @@ tableRefusal s =
     (unless 15 (offsetsOk s)
     (contentRefusal s)))
 
--- 10 to 17
-unfoldable pub refusal : List ℕ → ℕ
-refusal s =
+-- 10 to 17, by a call that reads the editions 1 to `last`
+unfoldable pub refusal : (last : ℕ) → List ℕ → ℕ
+refusal last s =
     unless 10 (leb 32 (length s))
-    (unless 11 (leb (length s) 3376)
-    (unless 12 (markOk s)
+    (unless 11 (leb (length s) (sheetMost last))
+    (unless 12 (markOk last s)
     (unless 13 (totalOk s)
     (tableRefusal s))))
 
+-- the last edition that the calls read
+abbrev pub latest : ℕ
+latest = 1
+
 -- "a sheet is accepted when none of 10 to 17 holds"
 abbrev pub Accepted : List ℕ → Type 0
-Accepted s = refusal s ≡ 0
+Accepted s = refusal latest s ≡ 0

@@ -1,10 +1,11 @@
 -- Rows, the words that a row derives, and the steps from row to row that keep the length.
 use Prim.Native.Nat.{ℕ, zero, suc, _≤_}
 use mathlib.Core.Path.{_≡_}
-use mathlib.Core.Bool.{cond}
+use mathlib.Core.Bool.{true, cond}
 use mathlib.Core.List.{List, [], _∷_, _++_}
 use lib.Dec.{eqb}
 use lib.ListN.{getD}
+use Rattle.paper.specs.Compare.{sameByte, Same}
 
 -- n elements from place i on; past the end the default d
 unfoldable pub stretch : {A : Type 0} → A → List A → ℕ → ℕ → List A
@@ -46,8 +47,8 @@ row g r = getD (g .rows) r noRow
 -- "a row derives a word when a finite derivation shows it": a value of this type is one
 pub data Derives (g : Grammar) : ℕ → List ℕ → Type 0 where
   empty : {r : ℕ} → row g r ≡ Empty → Derives g r []
-  range : {r lo hi b : ℕ} → row g r ≡ Range lo hi → lo ≤ b → b ≤ hi → Derives g r (b ∷ [])
-  text : {r off len : ℕ} → row g r ≡ Text off len → Derives g r (stretch 0 (g .text) off len)
+  range : {r lo hi a b : ℕ} → row g r ≡ Range lo hi → lo ≤ a → a ≤ hi → sameByte a b ≡ true → Derives g r (b ∷ [])
+  text : {r off len : ℕ} {w : List ℕ} → row g r ≡ Text off len → Same (stretch 0 (g .text) off len) w → Derives g r w
   alt-left : {r a b : ℕ} {w : List ℕ} → row g r ≡ Alt a b → Derives g a w → Derives g r w
   alt-right : {r a b : ℕ} {w : List ℕ} → row g r ≡ Alt a b → Derives g b w → Derives g r w
   seq : {r a b : ℕ} {u v : List ℕ} → row g r ≡ Seq a b → Derives g a u → Derives g b v → Derives g r (u ++ v)

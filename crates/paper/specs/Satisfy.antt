@@ -2,9 +2,10 @@
 use Prim.Native.Nat.{ℕ, _≤_}
 use mathlib.Core.Path.{_≡_}
 use mathlib.Core.Bool.{Bool, true, false}
-use mathlib.Core.List.{List, [], _∷_, _++_}
+use mathlib.Core.List.{List}
 use lib.ListN.{length}
 use Rattle.paper.specs.Tests.{Every}
+use Rattle.paper.specs.Compare.{Same, StandsIn}
 use Rattle.paper.specs.Rows.{stretch, Derives}
 use Rattle.paper.specs.Terms.{term}
 use Rattle.paper.specs.Sheet.{Sheet, Claim, Derived, Contains, Equals, Assertion, Run, secondRun, letter, partsOf, inside}
@@ -16,8 +17,8 @@ termWord s w r = term (λ b. b) (s .grammar .text) w (partsOf s r)
 -- the claim holds of its term's word t and its second term's word u
 abbrev pub Holds : Sheet → Claim → List ℕ → List ℕ → Type 0
 Holds s (Derived r) t u = Derives (s .grammar) r t
-Holds s (Contains a b) t u = (x : List ℕ) × (y : List ℕ) × (t ≡ x ++ (stretch 0 (s .grammar .text) a b ++ y))
-Holds s (Equals a b) t u = t ≡ u
+Holds s (Contains a b) t u = StandsIn (stretch 0 (s .grammar .text) a b) t
+Holds s (Equals a b) t u = Same t u
 
 -- "sign 0 asserts, 1 denies"
 abbrev pub Signed : Bool → Type 0 → Type 0

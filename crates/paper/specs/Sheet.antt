@@ -64,39 +64,44 @@ partsOf s r = take (r .count) (drop (r .first) (s .parts))
 unfoldable pub inside : Sheet → ℕ → Assertion → Bool
 inside s n a = allOf (cutInside n) (partsOf s (a .term)) && allOf (cutInside n) (partsOf s (secondRun (a .claim)))
 
--- ---- read from the bytes, record i of each table
+-- ---- read from the bytes: the record that stands at o
 
 unfoldable pub spanAt : List ℕ → ℕ → Span
-spanAt s i = let o = recordAt s 0 i in record { low = u8At s o; high = u8At s (o + 1) }
+spanAt s o = record { low = u8At s o; high = u8At s (o + 1) }
 
 unfoldable pub rowAt : List ℕ → ℕ → Row
-rowAt s i = let o = recordAt s 2 i in rowOf (u8At s o) (u16At s (o + 2)) (u16At s (o + 4))
+rowAt s o = rowOf (u8At s o) (u16At s (o + 2)) (u16At s (o + 4))
 
 unfoldable pub partAt : List ℕ → ℕ → Part
-partAt s i = let o = recordAt s 3 i in partOf (u8At s o) (u16At s (o + 2)) (u16At s (o + 4))
+partAt s o = partOf (u8At s o) (u16At s (o + 2)) (u16At s (o + 4))
 
 unfoldable pub assertionAt : List ℕ → ℕ → Assertion
-assertionAt s i =
-    let o = recordAt s 4 i in
-    record {
-      claim = claimOf (u8At s o) (u16At s (o + 6)) (u16At s (o + 8));
-      denied = eqb (u8At s (o + 1)) 1;
-      term = record { first = u16At s (o + 2); count = u16At s (o + 4) };
-    }
+assertionAt s o = record {
+  claim = claimOf (u8At s o) (u16At s (o + 6)) (u16At s (o + 8));
+  denied = eqb (u8At s (o + 1)) 1;
+  term = record { first = u16At s (o + 2); count = u16At s (o + 4) };
+}
+
+-- record i of table t, read by `at`; and a whole table
+abbrev pub ofTable : {A : Type 0} → (List ℕ → ℕ → A) → List ℕ → (t i : ℕ) → A
+ofTable at s t i = at s (recordAt s t i)
+
+unfoldable pub tableOf : {A : Type 0} → (List ℕ → ℕ → A) → List ℕ → (t : ℕ) → List A
+tableOf at s t = tableFrom 0 (countOf s t) (ofTable at s t)
 
 -- the text lent with a sheet: its text table
 unfoldable pub textOf : List ℕ → List ℕ
 textOf s = take (countOf s 1) (drop (offsetOf s 1) s)
 
 unfoldable pub grammarOf : List ℕ → Grammar
-grammarOf s = record { rows = tableFrom 0 (countOf s 2) (rowAt s); text = textOf s }
+grammarOf s = record { rows = tableOf rowAt s 2; text = textOf s }
 
 unfoldable pub sheetOf : List ℕ → Sheet
 sheetOf s = record {
-  letters = tableFrom 0 (countOf s 0) (spanAt s);
+  letters = tableOf spanAt s 0;
   grammar = grammarOf s;
-  parts = tableFrom 0 (countOf s 3) (partAt s);
-  assertions = tableFrom 0 (countOf s 4) (assertionAt s);
+  parts = tableOf partAt s 3;
+  assertions = tableOf assertionAt s 4;
   shortest = trailer.shortest s;
   longest = trailer.longest s;
 }

@@ -3,7 +3,7 @@ use Prim.Native.Nat.{ℕ, zero, suc, _+_, _-_}
 use mathlib.Core.Bool.{Bool, true, cond}
 use mathlib.Core.List.{List, [], _∷_, _++_, map}
 use lib.Dec.{eqb, leb}
-use lib.ListN.{length, replicate}
+use lib.ListN.{length, take, drop, replicate}
 use Rattle.paper.specs.Rows.{stretch}
 
 pub data Part : Type 0 where
@@ -30,12 +30,18 @@ placesOf n p = map Known p ++ replicate (n - length p) Unknown
 unfoldable pub piece : {A : Type 0} → (ℕ → A) → List ℕ → List A → Part → List A
 piece known text v (Const a b) = map known (stretch 0 text a b)
 piece known text v All = v
-piece known text v (Cut a b) = stretch (known 0) v a b
+piece known text v (Cut a b) = take b (drop a v)
 
 -- "a term is a run of parts, joined; no parts is the empty word"
 unfoldable pub term : {A : Type 0} → (ℕ → A) → List ℕ → List A → List Part → List A
 term known text v [] = []
 term known text v (p ∷ ps) = piece known text v p ++ term known text v ps
+
+-- 17: the bytes of a part at length n, "a cut counting its full b"
+unfoldable pub fullLength : ℕ → Part → ℕ
+fullLength n (Const a b) = b
+fullLength n All = n
+fullLength n (Cut a b) = b
 
 -- a cut does not reach past the end of v at length n
 unfoldable pub cutInside : ℕ → Part → Bool

@@ -21,9 +21,21 @@ most t = getD (8 ∷ 1024 ∷ 256 ∷ 64 ∷ 32 ∷ []) t 0
 abbrev pub limit : ℕ
 limit = 60
 
--- where the trailer of 32 bytes begins
+-- the edition that the last byte of the mark names: `1` is byte 49
+unfoldable pub edition : List ℕ → ℕ
+edition s = u8At s (length s - 1) - 48
+
+-- the bytes of an edition's trailer: 32 for `PRM1`
+abbrev pub trailerSize : ℕ → ℕ
+trailerSize e = 28 + 4 * e
+
+-- the bytes of the longest sheet of an edition: full tables and its trailer, 3,376 for `PRM1`
+abbrev pub sheetMost : ℕ → ℕ
+sheetMost e = 3344 + trailerSize e
+
+-- where the trailer begins
 unfoldable pub base : List ℕ → ℕ
-base s = length s - 32
+base s = length s - trailerSize (edition s)
 
 -- the trailer's fields of two bytes, by number
 unfoldable pub field : List ℕ → ℕ → ℕ
@@ -50,13 +62,13 @@ unfoldable pub startOf : List ℕ → ℕ → ℕ
 startOf s zero = 0
 startOf s (suc t) = startOf s t + size t * countOf s t
 
--- 12: the last four bytes are `PRM1`
-unfoldable pub markOk : List ℕ → Bool
-markOk s = markAt s (length s - 4) 80 82 77 49
+-- 12: the last four bytes are `PRM` and the digit of an edition that the call reads, 1 to `last`
+unfoldable pub markOk : (last : ℕ) → List ℕ → Bool
+markOk last s = leb 1 (edition s) && (leb (edition s) last && markAt s (length s - 4) 80 82 77 (48 + edition s))
 
--- 13: the stored total is the length lent
+-- 13: there is room for the edition's trailer, and the stored total is the length lent
 unfoldable pub totalOk : List ℕ → Bool
-totalOk s = eqb (u32At s (length s - 8)) (length s)
+totalOk s = leb (trailerSize (edition s)) (length s) && eqb (u32At s (length s - 8)) (length s)
 
 -- 14: a count is within its limits
 unfoldable pub countOk : List ℕ → ℕ → Bool
