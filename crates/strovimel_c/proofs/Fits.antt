@@ -15,7 +15,7 @@ use Rattle.paper.specs.Cuts.{cutList}
 use Rattle.paper.specs.Answers.{Said, Found, None, Spent, Refused, reportOf, whether, under, walkOf, solverRefusal, solverSays, makerRefusal, makerSays}
 use Rattle.paper.proofs.Meaning.{Means, answer-means}
 use Rattle.paper.proofs.Obeys.{list-most}
-use Rattle.table.proofs.Spans.{lt-or-le}
+use Rattle.workspace.proofs.Spans.{lt-or-le}
 use Rattle.sheet.proofs.Good.{good}
 use Rattle.sheet.proofs.Soundness.{accepted-sound}
 use Rattle.solver.specs.Promise.{says}
