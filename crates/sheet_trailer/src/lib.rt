@@ -1,9 +1,11 @@
-// A sheet's trailer: its fields, and the faults 12 to 15.
+// A sheet's trailer: its edition, its fields by name, and the faults 12 to 15.
 ghost use mathlib.Core.Path.{_≡_};
 ghost use Prim.Native.Nat.{_+_, _≤_, _<_};
 ghost use lib.ListN.{length};
 ghost use Rattle.paper.specs.Tests.{firstBad};
-ghost use Rattle.paper.specs.Trailer.{field, markOk, totalOk, lengthsOk, countOk, offsetsOk};
+ghost use Rattle.paper.specs.Trailer.{edition, base, field, shortest, longest, markOk, totalOk, lengthsOk, countOk, offsetsOk};
+ghost use Rattle.sheet_trailer.specs.Placed.{Trailed};
+ghost use Rattle.sheet_trailer.specs.Tables.{tableAt};
 
 // A record's bytes, and the least and the greatest count, by table.
 pub const SIZE: [usize; 5] = [2, 1, 6, 6, 12];
@@ -12,48 +14,109 @@ const LEAST: [usize; 5] = [1, 0, 0, 0, 0];
 
 const MOST: [usize; 5] = [8, 1024, 256, 64, 32];
 
-// The trailer's field of two bytes with the number k.
-pub fn field(s: &[u8], k: usize) -> usize
-    requires { ⌜ (32 ≤ length (now s)) × (k < 12) ⌝ }
-    ensures { λ r. ⌜ (r ≡ «field» (now (s .entry)) k) × (r < 65536) ⌝ }
+// The edition that the mark names.
+fn edition(s: &[u8]) -> usize
+    requires { ⌜ 1 ≤ length (now s) ⌝ }
+    ensures { λ r. ⌜ (r ≡ «edition» (now (s .entry))) × (r < 256) ⌝ }
 {
-    numbers::u16_at(s, s.len() - 32 + 2 * k)
+    let digit = numbers::wide(s[s.len() - 1]);
+    if digit < 48 {
+        return 0;
+    }
+    digit - 48
 }
 
-pub fn mark_ok(s: &[u8]) -> bool
-    requires { ⌜ 32 ≤ length (now s) ⌝ }
-    ensures { λ r. ⌜ r ≡ markOk (now (s .entry)) ⌝ }
+// Where the trailer begins.
+fn base(s: &[u8]) -> usize
+    requires { ⌜ Trailed (now s) ⌝ }
+    ensures { λ r. ⌜ r ≡ «base» (now (s .entry)) ⌝ }
 {
-    numbers::mark_at(s, s.len() - 4, b'P', b'R', b'M', b'1')
+    s.len() - (28 + 4 * edition(s))
+}
+
+// The trailer's field of two bytes with the number k.
+fn field(s: &[u8], k: usize) -> usize
+    requires { ⌜ Trailed (now s) × (k < 12) ⌝ }
+    ensures { λ r. ⌜ (r ≡ «field» (now (s .entry)) k) × (r < 65536) ⌝ }
+{
+    numbers::u16_at(s, base(s) + 2 * k)
+}
+
+pub fn shortest(s: &[u8]) -> usize
+    requires { ⌜ Trailed (now s) ⌝ }
+    ensures { λ r. ⌜ (r ≡ «shortest» (now (s .entry))) × (r < 65536) ⌝ }
+{
+    field(s, 0)
+}
+
+pub fn longest(s: &[u8]) -> usize
+    requires { ⌜ Trailed (now s) ⌝ }
+    ensures { λ r. ⌜ (r ≡ «longest» (now (s .entry))) × (r < 65536) ⌝ }
+{
+    field(s, 1)
+}
+
+// Where a table's records begin, and how many there are.
+pub struct Table {
+    pub at: usize,
+    pub count: usize,
+}
+
+// Table t: 0 letters, 1 text, 2 rows, 3 parts, 4 assertions.
+pub fn table_of(s: &[u8], t: usize) -> Table
+    requires { ⌜ Trailed (now s) × (t < 5) ⌝ }
+    ensures { λ r. ⌜ (r ≡ tableAt (now (s .entry)) t) × (r .at < 65536) × (r .count < 65536) ⌝ }
+{
+    let at = field(s, 2 + 2 * t);
+    let count = field(s, 3 + 2 * t);
+    Table { at, count }
+}
+
+// The mark is that of an edition from 1 to `last`.
+pub fn mark_ok(s: &[u8], last: usize) -> bool
+    requires { ⌜ (32 ≤ length (now s)) × (last < 10) ⌝ }
+    ensures { λ r. ⌜ r ≡ markOk last (now (s .entry)) ⌝ }
+{
+    let e = edition(s);
+    if e < 1 {
+        return false;
+    }
+    if e > last {
+        return false;
+    }
+    numbers::mark_at(s, s.len() - 4, b'P', b'R', b'M', (48 + e) as u8)
 }
 
 pub fn total_ok(s: &[u8]) -> bool
     requires { ⌜ 32 ≤ length (now s) ⌝ }
     ensures { λ r. ⌜ r ≡ totalOk (now (s .entry)) ⌝ }
 {
+    if s.len() < 28 + 4 * edition(s) {
+        return false;
+    }
     numbers::u32_at(s, s.len() - 8) == s.len()
 }
 
 pub fn lengths_ok(s: &[u8]) -> bool
-    requires { ⌜ 32 ≤ length (now s) ⌝ }
+    requires { ⌜ Trailed (now s) ⌝ }
     ensures { λ r. ⌜ r ≡ lengthsOk (now (s .entry)) ⌝ }
 {
-    let shortest = field(s, 0);
-    let longest = field(s, 1);
-    shortest <= longest && longest <= 60
+    let low = shortest(s);
+    let high = longest(s);
+    low <= high && high <= 60
 }
 
 fn count_ok(s: &[u8], t: usize) -> bool
-    requires { ⌜ (32 ≤ length (now s)) × (t < 5) ⌝ }
+    requires { ⌜ Trailed (now s) × (t < 5) ⌝ }
     ensures { λ r. ⌜ r ≡ countOk (now (s .entry)) t ⌝ }
 {
-    let n = field(s, 3 + 2 * t);
+    let n = table_of(s, t).count;
     LEAST[t] <= n && n <= MOST[t]
 }
 
 // The first table whose count is outside its limits, or 5.
 pub fn bad_count(s: &[u8]) -> usize
-    requires { ⌜ 32 ≤ length (now s) ⌝ }
+    requires { ⌜ Trailed (now s) ⌝ }
     ensures { λ r. ⌜ r ≡ firstBad (countOk (now (s .entry))) 5 ⌝ }
 {
     let mut t: usize = 0;
@@ -69,17 +132,18 @@ pub fn bad_count(s: &[u8]) -> usize
 
 // The tables lie end to end from 0 up to the trailer.
 pub fn offsets_ok(s: &[u8]) -> bool
-    requires { ⌜ 32 ≤ length (now s) ⌝ }
+    requires { ⌜ Trailed (now s) ⌝ }
     ensures { λ r. ⌜ r ≡ offsetsOk (now (s .entry)) ⌝ }
 {
     let mut t: usize = 0;
     let mut at: usize = 0;
     while t < 5 {
-        if field(s, 2 + 2 * t) != at {
+        let x = table_of(s, t);
+        if x.at != at {
             return false;
         }
-        at += SIZE[t] * field(s, 3 + 2 * t);
+        at += SIZE[t] * x.count;
         t += 1;
     }
-    at == s.len() - 32
+    at == base(s)
 }
