@@ -14,49 +14,49 @@ use native.Mathlib.Numerals.{add-one}
 use Rattle.paper.specs.Bytes.{u8At}
 use Rattle.paper.specs.Tests.{anyBelow}
 use Rattle.paper.specs.Trailer.{countOf, recordAt}
-use Rattle.paper.specs.Refusals.{refusal}
 use Rattle.paper.specs.Rows.{row, noRow}
 use Rattle.paper.specs.Terms.{Part}
-use Rattle.paper.specs.Sheet.{Span, Assertion, spanAt, rowAt, partAt, assertionAt, textOf, grammarOf, sheetOf, letter}
+use Rattle.paper.specs.Sheet.{Span, Assertion, spanAt, rowAt, partAt, assertionAt, ofTable, tableOf, textOf, grammarOf, sheetOf, letter}
 use Rattle.paper.proofs.Tests.{table-length, table-at, any-of-table, any-intro, and-intro}
-use Rattle.sheet.proofs.Good.{good}
+use Rattle.sheet.specs.Good.{Good}
+
+-- a table's length, and what stands at a place of it
+pub of-length : {A : Type 0} (at : List ℕ → ℕ → A) (s : List ℕ) (t : ℕ) → length (tableOf at s t) ≡ countOf s t
+unfolding tableOf
+of-length at s t = table-length 0 (countOf s t) (ofTable at s t)
+
+pub of-at : {A : Type 0} (at : List ℕ → ℕ → A) (s : List ℕ) (t i : ℕ) (d : A) → i < countOf s t → getD (tableOf at s t) i d ≡ at s (recordAt s t i)
+unfolding tableOf
+of-at at s t i d h = table-at 0 (countOf s t) (ofTable at s t) d i h ∙ ap (ofTable at s t) (zero-add i)
 
 module _ (s : List ℕ) where
-  pub letters-length : length (sheetOf s .letters) ≡ countOf s 0
-  unfolding sheetOf
-  letters-length = table-length 0 (countOf s 0) (spanAt s)
-
   pub rows-length : length (grammarOf s .rows) ≡ countOf s 2
   unfolding grammarOf
-  rows-length = table-length 0 (countOf s 2) (rowAt s)
+  rows-length = of-length rowAt s 2
 
   pub parts-length : length (sheetOf s .parts) ≡ countOf s 3
   unfolding sheetOf
-  parts-length = table-length 0 (countOf s 3) (partAt s)
+  parts-length = of-length partAt s 3
 
   pub assertions-length : length (sheetOf s .assertions) ≡ countOf s 4
   unfolding sheetOf
-  assertions-length = table-length 0 (countOf s 4) (assertionAt s)
+  assertions-length = of-length assertionAt s 4
 
-  pub text-length : refusal s ≡ 0 → length (textOf s) ≡ countOf s 1
+  pub text-length : Good s → length (textOf s) ≡ countOf s 1
   unfolding textOf
-  text-length e = length-take-le _ _ (rw length-drop (omega (arith, good s e .tables 1 (omega arith))))
+  text-length g = length-take-le _ _ (rw length-drop (omega (arith, g .placed 1 (omega arith))))
 
-  pub span-here : (i : ℕ) (d : Span) → i < countOf s 0 → getD (sheetOf s .letters) i d ≡ spanAt s i
-  unfolding sheetOf
-  span-here i d h = table-at 0 (countOf s 0) (spanAt s) d i h ∙ ap (spanAt s) (zero-add i)
-
-  pub row-here : (i : ℕ) → i < countOf s 2 → row (grammarOf s) i ≡ rowAt s i
+  pub row-here : (i : ℕ) → i < countOf s 2 → row (grammarOf s) i ≡ rowAt s (recordAt s 2 i)
   unfolding grammarOf row
-  row-here i h = table-at 0 (countOf s 2) (rowAt s) noRow i h ∙ ap (rowAt s) (zero-add i)
+  row-here i h = of-at rowAt s 2 i noRow h
 
-  pub part-here : (i : ℕ) (d : Part) → i < countOf s 3 → getD (sheetOf s .parts) i d ≡ partAt s i
+  pub part-here : (i : ℕ) (d : Part) → i < countOf s 3 → getD (sheetOf s .parts) i d ≡ partAt s (recordAt s 3 i)
   unfolding sheetOf
-  part-here i d h = table-at 0 (countOf s 3) (partAt s) d i h ∙ ap (partAt s) (zero-add i)
+  part-here i d h = of-at partAt s 3 i d h
 
-  pub assertion-here : (i : ℕ) (d : Assertion) → i < countOf s 4 → getD (sheetOf s .assertions) i d ≡ assertionAt s i
+  pub assertion-here : (i : ℕ) (d : Assertion) → i < countOf s 4 → getD (sheetOf s .assertions) i d ≡ assertionAt s (recordAt s 4 i)
   unfolding sheetOf
-  assertion-here i d h = table-at 0 (countOf s 4) (assertionAt s) d i h ∙ ap (assertionAt s) (zero-add i)
+  assertion-here i d h = of-at assertionAt s 4 i d h
 
 -- the byte b lies in range k
 abbrev pub inSpan : List ℕ → (b k : ℕ) → Bool
@@ -68,14 +68,14 @@ none-more f i h g = rw (add-one, g, anyBelow) h
 
 -- a letter lies in one of the ranges
 pub letter-is : (s : List ℕ) (b : ℕ) → b < 256 → letter (sheetOf s) b ≡ anyBelow (countOf s 0) (inSpan s b)
-unfolding letter sheetOf spanAt
+unfolding letter sheetOf tableOf spanAt
 letter-is s b h =
-    rw (lt-ltb b 256 h) (simp zero-add at (any-of-table (λ (r : Span). leb (r .low) b && leb b (r .high)) 0 (countOf s 0) (spanAt s)))
+    rw (lt-ltb b 256 h) (simp zero-add at (any-of-table (λ (r : Span). leb (r .low) b && leb b (r .high)) 0 (countOf s 0) (ofTable spanAt s 0)))
 
 -- an accepted sheet of bytes has a letter
-pub some-letter : (s : List ℕ) → ((i : ℕ) → u8At s i < 256) → refusal s ≡ 0 → (b : ℕ) × (b < 256) × (letter (sheetOf s) b ≡ true)
-some-letter s byte e =
+pub some-letter : (s : List ℕ) → ((i : ℕ) → u8At s i < 256) → Good s → (b : ℕ) × (b < 256) × (letter (sheetOf s) b ≡ true)
+some-letter s byte g =
     let b = u8At s (recordAt s 0 0) in
-    let few : 0 < countOf s 0 = good s e .counts 0 (omega arith) .0 in
+    let few : 0 < countOf s 0 = g .counts 0 (omega arith) .0 in
     let low : leb b b ≡ true = le-leb b b (omega arith) in
-    (b, byte _, letter-is s b (byte _) ∙ any-intro (countOf s 0) (inSpan s b) 0 few (and-intro low (le-leb _ _ (good s e .letters 0 few))))
+    (b, byte _, letter-is s b (byte _) ∙ any-intro (countOf s 0) (inSpan s b) 0 few (and-intro low (le-leb _ _ (g .letters 0 few))))

@@ -1,3 +1,2 @@
-pub mod Verdict
-pub mod Facts
+pub mod Good
 pub mod Readers

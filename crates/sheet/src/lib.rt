@@ -2,220 +2,124 @@
 ghost use mathlib.Core.Path.{_≡_};
 ghost use mathlib.Core.Bool.{_&&_};
 ghost use Prim.Native.Nat.{_+_, _≤_, _<_};
-ghost use lib.ListN.{length};
 ghost use lib.Dec.{leb};
+ghost use lib.ListN.{length};
 ghost use Rattle.paper.specs.Bytes.{u8At};
-ghost use Rattle.paper.specs.Trailer.{offsetOf, countOf};
-ghost use Rattle.paper.specs.Refusals.{contentRefusal, tableRefusal, refusal};
-ghost use Rattle.paper.specs.Sheet.{letter, textOf, sheetOf};
-ghost use Rattle.sheet_trailer.specs.Placed.{Placed};
-ghost use Rattle.sheet.specs.Verdict.{numberOf};
-ghost use Rattle.sheet.specs.Readers.{trailerOf, FieldsAt, AssertionFields, RowRead, PartRead, AssertionRead};
+ghost use Rattle.paper.specs.Refusals.{contentRefusal, tableRefusal, refusal, latest};
+ghost use Rattle.paper.specs.Sheet.{textOf, sheetOf, letter};
+ghost use Rattle.sheet_trailer.specs.Placed.{Trailed, Laid};
+ghost use Rattle.sheet_trailer.specs.Tables.{tableAt};
+ghost use Rattle.sheet.specs.Good.{Good};
+ghost use Rattle.sheet.specs.Readers.{RowRead, PartRead, AssertionRead};
+use sheet_contents::Assertion;
+use sheet_contents::Part;
+use sheet_contents::Row;
+use sheet_trailer::Table;
 
-// A fault, each case one of the paper's numbers, or none.
-pub enum Verdict {
-    Accepted,
-    Short,
-    Long,
-    Mark,
-    Total,
-    Counts,
-    Offsets,
-    Record,
-    Term,
+// A fault by the paper's number; 0 where there is none.
+pub struct Fault {
+    pub number: u32,
 }
 
-// The paper's number of a verdict.
-pub fn number(v: Verdict) -> u8
-    ensures { λ r. ⌜ r ≡ numberOf v ⌝ }
+pub fn fault(number: u32) -> Fault
+    ensures { λ r. ⌜ r .number ≡ number ⌝ }
 {
-    match v {
-        Verdict::Accepted => 0,
-        Verdict::Short => 10,
-        Verdict::Long => 11,
-        Verdict::Mark => 12,
-        Verdict::Total => 13,
-        Verdict::Counts => 14,
-        Verdict::Offsets => 15,
-        Verdict::Record => 16,
-        Verdict::Term => 17,
-    }
+    Fault { number }
 }
 
 // 16 and 17, of a sheet whose tables lie right.
-fn check_content(s: &[u8]) -> Verdict
-    requires { ⌜ (32 ≤ length (now s)) × Placed (now s) ⌝ }
-    ensures { λ r. ⌜ numberOf r ≡ contentRefusal (now (s .entry)) ⌝ }
+fn check_content(s: &[u8]) -> Fault
+    requires { ⌜ Laid (now s) ⌝ }
+    ensures { λ r. ⌜ r .number ≡ contentRefusal (now (s .entry)) ⌝ }
 {
     if sheet_records::bad_table(s) != 5 {
-        return Verdict::Record;
+        return fault(16);
     }
-    if sheet_records::terms::bad_term(s) != sheet_trailer::field(s, 11) {
-        return Verdict::Term;
+    if sheet_records::terms::bad_term(s) != sheet_trailer::count_of(s, 4) {
+        return fault(17);
     }
-    Verdict::Accepted
+    fault(0)
 }
 
 // 14 to 17, of a sheet with its mark and its total.
-fn check_tables(s: &[u8]) -> Verdict
-    requires { ⌜ 32 ≤ length (now s) ⌝ }
-    ensures { λ r. ⌜ numberOf r ≡ tableRefusal (now (s .entry)) ⌝ }
+fn check_tables(s: &[u8]) -> Fault
+    requires { ⌜ Trailed (now s) ⌝ }
+    ensures { λ r. ⌜ r .number ≡ tableRefusal (now (s .entry)) ⌝ }
 {
     if sheet_trailer::bad_count(s) != 5 {
-        return Verdict::Counts;
+        return fault(14);
     }
     if !sheet_trailer::lengths_ok(s) {
-        return Verdict::Counts;
+        return fault(14);
     }
     if !sheet_trailer::offsets_ok(s) {
-        return Verdict::Offsets;
+        return fault(15);
     }
     check_content(s)
 }
 
-// The first fault of any bytes.
-pub fn check(s: &[u8]) -> Verdict
-    ensures { λ r. ⌜ numberOf r ≡ refusal (now (s .entry)) ⌝ }
+// The first fault of any bytes, for a call that reads the editions 1 to `last`.
+pub fn first_fault(s: &[u8], last: usize) -> Fault
+    requires { ⌜ last < 10 ⌝ }
+    ensures { λ r. ⌜ r .number ≡ refusal last (now (s .entry)) ⌝ }
 {
     if s.len() < 32 {
-        return Verdict::Short;
+        return fault(10);
     }
-    if s.len() > 3376 {
-        return Verdict::Long;
+    if s.len() > 3372 + 4 * last {
+        return fault(11);
     }
-    if !sheet_trailer::mark_ok(s) {
-        return Verdict::Mark;
+    if !sheet_trailer::mark_ok(s, last) {
+        return fault(12);
     }
     if !sheet_trailer::total_ok(s) {
-        return Verdict::Total;
+        return fault(13);
     }
     check_tables(s)
 }
 
-// The trailer's lengths, and each table's count and offset.
-pub struct Trailer {
-    pub shortest: usize,
-    pub longest: usize,
-    pub letters: usize,
-    pub letters_at: usize,
-    pub text: usize,
-    pub text_at: usize,
-    pub rows: usize,
-    pub rows_at: usize,
-    pub parts: usize,
-    pub parts_at: usize,
-    pub assertions: usize,
-    pub assertions_at: usize,
-}
+// The last edition that the calls read.
+pub const LATEST: usize = 1;
 
-// A row or a part.
-pub struct Fields {
-    pub kind: u8,
-    pub a: usize,
-    pub b: usize,
-}
-
-// An assertion with its run of parts.
-pub struct Assertion {
-    pub kind: u8,
-    pub denied: bool,
-    pub first: usize,
-    pub count: usize,
-    pub a: usize,
-    pub b: usize,
-}
-
-// The trailer of a sheet that is long enough for one.
-fn trailer_at_end(s: &[u8]) -> Trailer
-    requires { ⌜ 32 ≤ length (now s) ⌝ }
-    ensures { λ r. ⌜ r ≡ trailerOf (now (s .entry)) ⌝ }
+// The first fault of any bytes.
+pub fn check(s: &[u8]) -> Fault
+    ensures { λ r. ⌜ r .number ≡ refusal latest (now (s .entry)) ⌝ }
 {
-    Trailer {
-        shortest: sheet_trailer::field(s, 0),
-        longest: sheet_trailer::field(s, 1),
-        letters: sheet_trailer::field(s, 3),
-        letters_at: sheet_trailer::field(s, 2),
-        text: sheet_trailer::field(s, 5),
-        text_at: sheet_trailer::field(s, 4),
-        rows: sheet_trailer::field(s, 7),
-        rows_at: sheet_trailer::field(s, 6),
-        parts: sheet_trailer::field(s, 9),
-        parts_at: sheet_trailer::field(s, 8),
-        assertions: sheet_trailer::field(s, 11),
-        assertions_at: sheet_trailer::field(s, 10),
-    }
+    first_fault(s, LATEST)
 }
 
-pub fn trailer_of(s: &[u8]) -> Trailer
-    requires { ⌜ refusal (now s) ≡ 0 ⌝ }
-    ensures { λ r. ⌜ r ≡ trailerOf (now (s .entry)) ⌝ }
-{
-    trailer_at_end(s)
-}
-
-// The kind, a and b of the row or part at o.
-fn fields_at(s: &[u8], o: usize) -> Fields
-    requires { ⌜ o + 6 ≤ length (now s) ⌝ }
-    ensures { λ r. ⌜ FieldsAt (now (s .entry)) o r ⌝ }
-{
-    let kind = s[o];
-    let a = numbers::u16_at(s, o + 2);
-    let b = numbers::u16_at(s, o + 4);
-    Fields { kind, a, b }
-}
-
-// Row i, where the rows begin at `at`.
-pub fn row_at(s: &[u8], at: usize, i: usize) -> Fields
-    requires { ⌜ (refusal (now s) ≡ 0) × (at ≡ offsetOf (now s) 2) × (i < countOf (now s) 2) ⌝ }
+// Row i of an accepted sheet.
+pub fn row_at(s: &[u8], rows: Table, i: usize) -> Row
+    requires { ⌜ Good (now s) × (rows ≡ tableAt (now s) 2) × (i < rows .count) ⌝ }
     ensures { λ r. ⌜ RowRead (now (s .entry)) i r ⌝ }
 {
-    fields_at(s, at + 6 * i)
+    sheet_contents::row_at(s, rows.at + 6 * i)
 }
 
-// Part i, where the parts begin at `at`.
-pub fn part_at(s: &[u8], at: usize, i: usize) -> Fields
-    requires { ⌜ (refusal (now s) ≡ 0) × (at ≡ offsetOf (now s) 3) × (i < countOf (now s) 3) ⌝ }
+// Part i.
+pub fn part_at(s: &[u8], parts: Table, i: usize) -> Part
+    requires { ⌜ Good (now s) × (parts ≡ tableAt (now s) 3) × (i < parts .count) ⌝ }
     ensures { λ r. ⌜ PartRead (now (s .entry)) i r ⌝ }
 {
-    fields_at(s, at + 6 * i)
+    sheet_contents::part_at(s, parts.at + 6 * i)
 }
 
-// The fields of the assertion at o.
-fn assertion_fields(s: &[u8], o: usize) -> Assertion
-    requires { ⌜ o + 12 ≤ length (now s) ⌝ }
-    ensures { λ r. ⌜ AssertionFields (now (s .entry)) o r ⌝ }
-{
-    let kind = s[o];
-    let denied = s[o + 1] == 1;
-    let first = numbers::u16_at(s, o + 2);
-    let count = numbers::u16_at(s, o + 4);
-    let a = numbers::u16_at(s, o + 6);
-    let b = numbers::u16_at(s, o + 8);
-    Assertion {
-        kind,
-        denied,
-        first,
-        count,
-        a,
-        b,
-    }
-}
-
-// Assertion i, where the assertions begin at `at`.
-pub fn assertion_at(s: &[u8], at: usize, i: usize) -> Assertion
-    requires { ⌜ (refusal (now s) ≡ 0) × (at ≡ offsetOf (now s) 4) × (i < countOf (now s) 4) ⌝ }
+// Assertion i.
+pub fn assertion_at(s: &[u8], assertions: Table, i: usize) -> Assertion
+    requires { ⌜ Good (now s) × (assertions ≡ tableAt (now s) 4) × (i < assertions .count) ⌝ }
     ensures { λ r. ⌜ AssertionRead (now (s .entry)) i r ⌝ }
 {
-    assertion_fields(s, at + 12 * i)
+    sheet_contents::assertion_at(s, assertions.at + 12 * i)
 }
 
 // The text, as a part of the sheet.
 pub fn text_of(s: &[u8]) -> &[u8]
-    requires { ⌜ refusal (now s) ≡ 0 ⌝ }
+    requires { ⌜ Good (now s) ⌝ }
     ensures { λ r. ⌜ now r ≡ textOf (now (s .entry)) ⌝ }
 {
-    let at = sheet_trailer::field(s, 4);
-    let end = at + sheet_trailer::field(s, 5);
+    let t = sheet_trailer::table_of(s, 1);
+    let at = t.at;
+    let end = at + t.count;
     &s[at..end]
 }
 
@@ -228,11 +132,12 @@ fn in_range(s: &[u8], o: usize, b: u8) -> bool
 }
 
 pub fn is_letter(s: &[u8], b: u8) -> bool
-    requires { ⌜ refusal (now s) ≡ 0 ⌝ }
+    requires { ⌜ Good (now s) ⌝ }
     ensures { λ r. ⌜ r ≡ letter (sheetOf (now (s .entry))) b ⌝ }
 {
-    let at = sheet_trailer::field(s, 2);
-    let n = sheet_trailer::field(s, 3);
+    let t = sheet_trailer::table_of(s, 0);
+    let at = t.at;
+    let n = t.count;
     let mut i: usize = 0;
     while i < n {
         if in_range(s, at + 2 * i, b) {

@@ -5,31 +5,31 @@ pub mod terms;
 ghost use mathlib.Core.Path.{_≡_};
 ghost use Prim.Native.Nat.{_+_, _*_, _≤_, _<_};
 ghost use lib.ListN.{length};
-ghost use Rattle.paper.specs.Trailer.{size, offsetOf, countOf};
+ghost use Rattle.paper.specs.Trailer.{size};
 ghost use Rattle.paper.specs.Records.{recordOk, badRecord, badTable};
-ghost use Rattle.sheet_trailer.specs.Placed.{Placed};
+ghost use Rattle.sheet_trailer.specs.Placed.{Trailed, Laid};
 
 // The record of table t at o.
 fn record_ok(s: &[u8], t: usize, o: usize) -> bool
-    requires { ⌜ (32 ≤ length (now s)) × (t < 5) × (o + size t ≤ length (now s)) ⌝ }
+    requires { ⌜ Trailed (now s) × (t < 5) × (o + size t ≤ length (now s)) ⌝ }
     ensures { λ r. ⌜ r ≡ recordOk (now (s .entry)) t o ⌝ }
 {
     match t {
         0 => rules::letter_ok(s, o),
         1 => true,
         2 => {
-            let text = sheet_trailer::field(s, 5);
-            let rows = sheet_trailer::field(s, 7);
+            let text = sheet_trailer::count_of(s, 1);
+            let rows = sheet_trailer::count_of(s, 2);
             rules::row_ok(s, o, rows, text)
         }
         3 => {
-            let text = sheet_trailer::field(s, 5);
+            let text = sheet_trailer::count_of(s, 1);
             rules::part_ok(s, o, text)
         }
         _ => {
-            let text = sheet_trailer::field(s, 5);
-            let rows = sheet_trailer::field(s, 7);
-            let parts = sheet_trailer::field(s, 9);
+            let text = sheet_trailer::count_of(s, 1);
+            let rows = sheet_trailer::count_of(s, 2);
+            let parts = sheet_trailer::count_of(s, 3);
             rules::assert_ok(s, o, text, rows, parts)
         }
     }
@@ -37,12 +37,13 @@ fn record_ok(s: &[u8], t: usize, o: usize) -> bool
 
 // The first bad record of table t, or its count.
 fn bad_record(s: &[u8], t: usize) -> usize
-    requires { ⌜ (32 ≤ length (now s)) × (t < 5) × (offsetOf (now s) t + size t * countOf (now s) t ≤ length (now s)) ⌝ }
+    requires { ⌜ Laid (now s) × (t < 5) ⌝ }
     ensures { λ r. ⌜ r ≡ badRecord (now (s .entry)) t ⌝ }
 {
-    let n = sheet_trailer::field(s, 3 + 2 * t);
+    let x = sheet_trailer::table_of(s, t);
     let step = sheet_trailer::SIZE[t];
-    let mut o = sheet_trailer::field(s, 2 + 2 * t);
+    let n = x.count;
+    let mut o = x.at;
     let mut i: usize = 0;
     while i < n {
         if record_ok(s, t, o) {
@@ -57,12 +58,12 @@ fn bad_record(s: &[u8], t: usize) -> usize
 
 // The first table with a bad record, or 5.
 pub fn bad_table(s: &[u8]) -> usize
-    requires { ⌜ (32 ≤ length (now s)) × Placed (now s) ⌝ }
+    requires { ⌜ Laid (now s) ⌝ }
     ensures { λ r. ⌜ r ≡ badTable (now (s .entry)) ⌝ }
 {
     let mut t: usize = 0;
     while t < 5 {
-        if bad_record(s, t) == sheet_trailer::field(s, 3 + 2 * t) {
+        if bad_record(s, t) == sheet_trailer::count_of(s, t) {
             t += 1;
         } else {
             return t;

@@ -3,25 +3,28 @@ ghost use mathlib.Core.Path.{_≡_};
 ghost use mathlib.Core.Bool.{true};
 ghost use Prim.Native.Nat.{_+_, _*_, _≤_, _<_};
 ghost use lib.ListN.{length};
-ghost use Rattle.paper.specs.Trailer.{offsetOf, countOf};
+ghost use Rattle.paper.specs.Trailer.{countOf};
 ghost use Rattle.paper.specs.Records.{recordOk, badTable, partLen, termLen, termFits, assertFits, badTerm};
-ghost use Rattle.sheet_trailer.specs.Placed.{Placed};
+ghost use Rattle.sheet_trailer.specs.Placed.{Trailed, Laid};
+ghost use Rattle.sheet_contents.specs.Read.{asRun};
+use sheet_contents::Part;
 
 // The bytes of the part at o.
 fn part_len(s: &[u8], o: usize) -> usize
-    requires { ⌜ (32 ≤ length (now s)) × (o + 6 ≤ length (now s)) ⌝ }
+    requires { ⌜ Trailed (now s) × (o + 6 ≤ length (now s)) ⌝ }
     ensures { λ r. ⌜ (r ≡ partLen (now (s .entry)) o) × (r < 65536) ⌝ }
 {
-    if s[o] == 2 {
-        sheet_trailer::field(s, 1)
-    } else {
-        numbers::u16_at(s, o + 4)
+    let p = sheet_contents::part_at(s, o);
+    match p {
+        Part::Const(_, b) => b,
+        Part::All => sheet_trailer::longest(s),
+        Part::Cut(_, b) => b,
     }
 }
 
 // The bytes of n parts, the first at o.
 fn term_len(s: &[u8], o: usize, n: usize) -> usize
-    requires { ⌜ (32 ≤ length (now s)) × (o + 6 * n ≤ length (now s)) × (n < 65536) ⌝ }
+    requires { ⌜ Trailed (now s) × (o + 6 * n ≤ length (now s)) × (n ≤ 64) ⌝ }
     ensures { λ r. ⌜ r ≡ termLen (now (s .entry)) o n ⌝ }
 {
     let mut sum: usize = 0;
@@ -33,40 +36,37 @@ fn term_len(s: &[u8], o: usize, n: usize) -> usize
     sum
 }
 
-// The term of n parts from the part `first` on has at most 60 bytes.
-fn term_fits(s: &[u8], first: usize, n: usize) -> bool
-    requires { ⌜ (32 ≤ length (now s)) × (first + n ≤ countOf (now s) 3) × (offsetOf (now s) 3 + 6 * countOf (now s) 3 ≤ length (now s)) × (n < 65536) ⌝ }
-    ensures { λ r. ⌜ r ≡ termFits (now (s .entry)) first n ⌝ }
+// The term of a run of parts has at most 60 bytes.
+fn term_fits(s: &[u8], r: sheet_contents::Run) -> bool
+    requires { ⌜ Laid (now s) × (r .first + r .count ≤ countOf (now s) 3) ⌝ }
+    ensures { λ b. ⌜ b ≡ termFits (now (s .entry)) (asRun r) ⌝ }
 {
-    let at = sheet_trailer::field(s, 8);
-    term_len(s, at + 6 * first, n) <= 60
+    let at = sheet_trailer::table_of(s, 3).at;
+    term_len(s, at + 6 * r.first, r.count) <= 60
 }
 
 // The terms of the assertion at o, which keeps its rule.
 fn assert_fits(s: &[u8], o: usize) -> bool
-    requires { ⌜ (32 ≤ length (now s)) × (o + 12 ≤ length (now s)) × Placed (now s) × (recordOk (now s) 4 o ≡ true) ⌝ }
+    requires { ⌜ Laid (now s) × (o + 12 ≤ length (now s)) × (recordOk (now s) 4 o ≡ true) ⌝ }
     ensures { λ r. ⌜ r ≡ assertFits (now (s .entry)) o ⌝ }
 {
-    let first = numbers::u16_at(s, o + 2);
-    let count = numbers::u16_at(s, o + 4);
-    if !term_fits(s, first, count) {
+    let a = sheet_contents::assertion_at(s, o);
+    let term = a.term;
+    if !term_fits(s, term) {
         return false;
     }
-    if s[o] != 3 {
-        return true;
-    }
-    let a = numbers::u16_at(s, o + 6);
-    let b = numbers::u16_at(s, o + 8);
-    term_fits(s, a, b)
+    let claim = a.claim;
+    term_fits(s, sheet_contents::second_run(claim))
 }
 
 // The first assertion with an overlong term, or their number.
 pub fn bad_term(s: &[u8]) -> usize
-    requires { ⌜ (32 ≤ length (now s)) × Placed (now s) × (badTable (now s) ≡ 5) ⌝ }
+    requires { ⌜ Laid (now s) × (badTable (now s) ≡ 5) ⌝ }
     ensures { λ r. ⌜ r ≡ badTerm (now (s .entry)) ⌝ }
 {
-    let n = sheet_trailer::field(s, 11);
-    let at = sheet_trailer::field(s, 10);
+    let x = sheet_trailer::table_of(s, 4);
+    let n = x.count;
+    let at = x.at;
     let mut i: usize = 0;
     while i < n {
         if assert_fits(s, at + 12 * i) {

@@ -3,7 +3,7 @@ ghost use mathlib.Core.Path.{_≡_};
 ghost use Prim.Native.Nat.{_+_, _≤_, _<_};
 ghost use lib.ListN.{length};
 ghost use Rattle.paper.specs.Tests.{firstBad};
-ghost use Rattle.paper.specs.Trailer.{edition, base, field, shortest, longest, markOk, totalOk, lengthsOk, countOk, offsetsOk};
+ghost use Rattle.paper.specs.Trailer.{edition, base, field, shortest, longest, countOf, markOk, totalOk, lengthsOk, countOk, offsetsOk};
 ghost use Rattle.sheet_trailer.specs.Placed.{Trailed};
 ghost use Rattle.sheet_trailer.specs.Tables.{tableAt};
 
@@ -56,19 +56,26 @@ pub fn longest(s: &[u8]) -> usize
     field(s, 1)
 }
 
+// How many records table t has: 0 letters, 1 text, 2 rows, 3 parts, 4 assertions.
+pub fn count_of(s: &[u8], t: usize) -> usize
+    requires { ⌜ Trailed (now s) × (t < 5) ⌝ }
+    ensures { λ r. ⌜ (r ≡ countOf (now (s .entry)) t) × (r < 65536) ⌝ }
+{
+    field(s, 3 + 2 * t)
+}
+
 // Where a table's records begin, and how many there are.
 pub struct Table {
     pub at: usize,
     pub count: usize,
 }
 
-// Table t: 0 letters, 1 text, 2 rows, 3 parts, 4 assertions.
 pub fn table_of(s: &[u8], t: usize) -> Table
     requires { ⌜ Trailed (now s) × (t < 5) ⌝ }
     ensures { λ r. ⌜ (r ≡ tableAt (now (s .entry)) t) × (r .at < 65536) × (r .count < 65536) ⌝ }
 {
     let at = field(s, 2 + 2 * t);
-    let count = field(s, 3 + 2 * t);
+    let count = count_of(s, t);
     Table { at, count }
 }
 
@@ -110,7 +117,7 @@ fn count_ok(s: &[u8], t: usize) -> bool
     requires { ⌜ Trailed (now s) × (t < 5) ⌝ }
     ensures { λ r. ⌜ r ≡ countOk (now (s .entry)) t ⌝ }
 {
-    let n = table_of(s, t).count;
+    let n = count_of(s, t);
     LEAST[t] <= n && n <= MOST[t]
 }
 

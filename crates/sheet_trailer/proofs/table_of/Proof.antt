@@ -3,7 +3,7 @@ use Rattle.sheet_trailer.proofs.table_of.Statement.{statement}
 use Rattle.sheet_trailer.proofs.table_of.Tie as tie
 
 returns : tie.Need-returns
-returns c = (cc, c .before .field .ensures .1, c .field2 .ensures .1)
+returns c = (cc, c .before .field .ensures .1, c .count-of .ensures .1)
 
 pub table-of-spec : {M : Type 1} → statement M
 table-of-spec =
@@ -12,7 +12,5 @@ table-of-spec =
     (λ c. search needs)
     (λ c. search needs)
     (λ c κs. search needs)
-    (λ c. search needs)
-    (λ c. search needs)
     (λ c κs. search needs)
     returns)
