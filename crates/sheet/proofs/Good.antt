@@ -11,7 +11,7 @@ use native.Mathlib.Omega.{arith}
 use Rattle.paper.specs.Bytes.{u8At}
 use Rattle.paper.specs.Tests.{firstBad}
 use Rattle.paper.specs.Trailer.{edition, trailerSize, sheetMost, size, least, most, limit, shortest, longest, offsetOf, countOf, recordAt, countOk, lengthsOk, offsetsOk, markOk, totalOk}
-use Rattle.paper.specs.Sheet.{assertionAt}
+use Rattle.paper.specs.Sheet.{secondRun, assertionAt}
 use Rattle.paper.specs.Records.{letterOk, recordOk, badTable, termFits, assertFits, badTerm}
 use Rattle.paper.specs.Refusals.{unless, contentRefusal, tableRefusal, refusal}
 use Rattle.paper.proofs.Tests.{and-left, and-right}
@@ -93,7 +93,7 @@ letter-at : (s : List ℕ) (o : ℕ) → recordOk s 0 o ≡ true → u8At s o �
 unfolding recordOk letterOk
 letter-at s o e = leb-true _ _ e
 
-terms-at : (s : List ℕ) (o : ℕ) → assertFits s o ≡ true → (termFits s (assertionAt s o .term) ≡ true) × (termFits s _ ≡ true)
+terms-at : (s : List ℕ) (o : ℕ) → assertFits s o ≡ true → (termFits s (assertionAt s o .term) ≡ true) × (termFits s (secondRun (assertionAt s o .claim)) ≡ true)
 unfolding assertFits
 terms-at s o e = (and-left _ _ e, and-right (termFits s (assertionAt s o .term)) _ e)
 

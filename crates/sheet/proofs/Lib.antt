@@ -1,3 +1,4 @@
 pub mod Good
 pub mod Contents
+pub mod Records
 pub mod Soundness

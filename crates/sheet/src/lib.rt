@@ -8,7 +8,7 @@ ghost use Rattle.paper.specs.Bytes.{u8At};
 ghost use Rattle.paper.specs.Refusals.{contentRefusal, tableRefusal, refusal, latest};
 ghost use Rattle.paper.specs.Sheet.{textOf, sheetOf, letter};
 ghost use Rattle.sheet_trailer.specs.Placed.{Trailed, Laid};
-ghost use Rattle.sheet_trailer.specs.Tables.{tableAt};
+ghost use Rattle.sheet_trailer.specs.Tables.{TableOf};
 ghost use Rattle.sheet.specs.Good.{Good};
 ghost use Rattle.sheet.specs.Readers.{RowRead, PartRead, AssertionRead};
 use sheet_contents::Assertion;
@@ -21,7 +21,7 @@ pub struct Fault {
     pub number: u32,
 }
 
-pub fn fault(number: u32) -> Fault
+pub fn by_number(number: u32) -> Fault
     ensures { λ r. ⌜ r .number ≡ number ⌝ }
 {
     Fault { number }
@@ -33,12 +33,12 @@ fn check_content(s: &[u8]) -> Fault
     ensures { λ r. ⌜ r .number ≡ contentRefusal (now (s .entry)) ⌝ }
 {
     if sheet_records::bad_table(s) != 5 {
-        return fault(16);
+        return by_number(16);
     }
     if sheet_records::terms::bad_term(s) != sheet_trailer::count_of(s, 4) {
-        return fault(17);
+        return by_number(17);
     }
-    fault(0)
+    by_number(0)
 }
 
 // 14 to 17, of a sheet with its mark and its total.
@@ -47,13 +47,13 @@ fn check_tables(s: &[u8]) -> Fault
     ensures { λ r. ⌜ r .number ≡ tableRefusal (now (s .entry)) ⌝ }
 {
     if sheet_trailer::bad_count(s) != 5 {
-        return fault(14);
+        return by_number(14);
     }
     if !sheet_trailer::lengths_ok(s) {
-        return fault(14);
+        return by_number(14);
     }
     if !sheet_trailer::offsets_ok(s) {
-        return fault(15);
+        return by_number(15);
     }
     check_content(s)
 }
@@ -64,16 +64,16 @@ pub fn first_fault(s: &[u8], last: usize) -> Fault
     ensures { λ r. ⌜ r .number ≡ refusal last (now (s .entry)) ⌝ }
 {
     if s.len() < 32 {
-        return fault(10);
+        return by_number(10);
     }
     if s.len() > 3372 + 4 * last {
-        return fault(11);
+        return by_number(11);
     }
     if !sheet_trailer::mark_ok(s, last) {
-        return fault(12);
+        return by_number(12);
     }
     if !sheet_trailer::total_ok(s) {
-        return fault(13);
+        return by_number(13);
     }
     check_tables(s)
 }
@@ -90,7 +90,7 @@ pub fn check(s: &[u8]) -> Fault
 
 // Row i of an accepted sheet.
 pub fn row_at(s: &[u8], rows: Table, i: usize) -> Row
-    requires { ⌜ Good (now s) × (rows ≡ tableAt (now s) 2) × (i < rows .count) ⌝ }
+    requires { ⌜ Good (now s) × TableOf (now s) 2 rows × (i < rows .count) ⌝ }
     ensures { λ r. ⌜ RowRead (now (s .entry)) i r ⌝ }
 {
     sheet_contents::row_at(s, rows.at + 6 * i)
@@ -98,7 +98,7 @@ pub fn row_at(s: &[u8], rows: Table, i: usize) -> Row
 
 // Part i.
 pub fn part_at(s: &[u8], parts: Table, i: usize) -> Part
-    requires { ⌜ Good (now s) × (parts ≡ tableAt (now s) 3) × (i < parts .count) ⌝ }
+    requires { ⌜ Good (now s) × TableOf (now s) 3 parts × (i < parts .count) ⌝ }
     ensures { λ r. ⌜ PartRead (now (s .entry)) i r ⌝ }
 {
     sheet_contents::part_at(s, parts.at + 6 * i)
@@ -106,7 +106,7 @@ pub fn part_at(s: &[u8], parts: Table, i: usize) -> Part
 
 // Assertion i.
 pub fn assertion_at(s: &[u8], assertions: Table, i: usize) -> Assertion
-    requires { ⌜ Good (now s) × (assertions ≡ tableAt (now s) 4) × (i < assertions .count) ⌝ }
+    requires { ⌜ Good (now s) × TableOf (now s) 4 assertions × (i < assertions .count) ⌝ }
     ensures { λ r. ⌜ AssertionRead (now (s .entry)) i r ⌝ }
 {
     sheet_contents::assertion_at(s, assertions.at + 12 * i)

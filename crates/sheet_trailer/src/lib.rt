@@ -5,7 +5,7 @@ ghost use lib.ListN.{length};
 ghost use Rattle.paper.specs.Tests.{firstBad};
 ghost use Rattle.paper.specs.Trailer.{edition, base, field, shortest, longest, countOf, markOk, totalOk, lengthsOk, countOk, offsetsOk};
 ghost use Rattle.sheet_trailer.specs.Placed.{Trailed};
-ghost use Rattle.sheet_trailer.specs.Tables.{tableAt};
+ghost use Rattle.sheet_trailer.specs.Tables.{TableOf};
 
 // A record's bytes, and the least and the greatest count, by table.
 pub const SIZE: [usize; 5] = [2, 1, 6, 6, 12];
@@ -72,7 +72,7 @@ pub struct Table {
 
 pub fn table_of(s: &[u8], t: usize) -> Table
     requires { ⌜ Trailed (now s) × (t < 5) ⌝ }
-    ensures { λ r. ⌜ (r ≡ tableAt (now (s .entry)) t) × (r .at < 65536) × (r .count < 65536) ⌝ }
+    ensures { λ r. ⌜ TableOf (now (s .entry)) t r × (r .at < 65536) × (r .count < 65536) ⌝ }
 {
     let at = field(s, 2 + 2 * t);
     let count = count_of(s, t);

@@ -27,20 +27,20 @@ abbrev μ-loop : tie.MeasureT-loop
 inside : (c : tie.In-loop Inv-loop μ-loop) → c .before .loop .o + size (c .before .before .before .before .args .t) ≤ length (c .before .before .before .before .args .s .now)
 inside c =
     let a = c .before .before .before .before in
-    let e : c .before .before .table-of .result .count ≡ countOf (a .args .s .now) (a .args .t) = cc in
+    let e = c .before .before .table-of .ensures .0 .counts in
     let whole : offsetOf (a .args .s .now) (a .args .t) + size (a .args .t) * c .before .before .table-of .result .count ≤ length (a .args .s .now) = rw e (a .pre .0 .placed (a .args .t) (a .pre .1)) in
     omega (arith, room (size (a .args .t)) _ _ (c .before .loop .i) _ (c .loop-test .taken) whole)
 
 -- a record's test, at its place
 judged : (c : tie.After-record-ok Inv-loop μ-loop) → c .record-ok .result ≡ good (c .before .before .before .before .before .args .s .now) (c .before .before .before .before .before .args .t) (c .before .before .loop .i)
-judged c = cc
+judged c = rw (← c .before .before .loop .inv .1) (c .record-ok .ensures)
 
 count : (c : tie.After-table-of Inv-loop μ-loop) → c .table-of .result .count ≡ countOf (c .before .before .args .s .now) (c .before .before .args .t)
-count c = cc
+count c = c .table-of .ensures .0 .counts
 
 loop-holds : tie.Need-loop-holds Inv-loop μ-loop
 loop-holds c =
-    let e : c .table-of .result .at ≡ offsetOf (c .before .before .args .s .now) (c .before .before .args .t) = cc in
+    let e = c .table-of .ensures .0 .begins in
     (start _ _, omega arith)
 
 loop-again : tie.Need-loop-again Inv-loop μ-loop

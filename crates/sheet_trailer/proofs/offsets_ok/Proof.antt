@@ -18,7 +18,7 @@ abbrev μ-loop : tie.MeasureT-loop
 μ-loop s t₀ at₀ t at = 5 - t
 
 begins : (c : tie.After-table-of Inv-loop μ-loop) → c .table-of .result .at ≡ offsetOf (c .before .before .before .before .args .s .now) (c .before .before .loop .t)
-begins c = cc
+begins c = c .table-of .ensures .0 .begins
 
 most : (c : tie.After-table-of Inv-loop μ-loop) → size (c .before .before .loop .t) * c .table-of .result .count ≤ 786420
 most c = table-most (c .before .before .loop .t) (c .table-of .result .count) (c .table-of .ensures .2)
@@ -39,7 +39,7 @@ unfolding offsetOk startOf
 loop-again c =
     let l = c .before .before .before .before .before in
     let good : offsetOk (l .before .before .args .s .now) (l .loop .t) ≡ true = eq-eqb _ _ (sym (begins (c .before .before .before)) ∙ c .before .if1 .left ∙ l .loop .inv .1) in
-    let next : l .loop .at + size (l .loop .t) * c .before .before .before .table-of .result .count ≡ startOf (l .before .before .args .s .now) (l .loop .t + 1) = rw (add-one (l .loop .t)) cc in
+    let next : l .loop .at + size (l .loop .t) * c .before .before .before .table-of .result .count ≡ startOf (l .before .before .args .s .now) (l .loop .t + 1) = rw (add-one (l .loop .t), ← c .before .before .before .table-of .ensures .0 .counts, l .loop .inv .1) in
     (more _ _ _ (l .loop .inv .0) (omega arith) good, next, omega (arith, most (c .before .before .before)))
 
 returns-2 : tie.Need-returns-2 Inv-loop μ-loop

@@ -3,7 +3,7 @@ use Rattle.sheet_trailer.proofs.table_of.Statement.{statement}
 use Rattle.sheet_trailer.proofs.table_of.Tie as tie
 
 returns : tie.Need-returns
-returns c = (cc, c .before .field .ensures .1, c .count-of .ensures .1)
+returns c = (record { begins = c .before .field .ensures .0; counts = c .count-of .ensures .0 }, c .before .field .ensures .1, c .count-of .ensures .1)
 
 pub table-of-spec : {M : Type 1} → statement M
 table-of-spec =

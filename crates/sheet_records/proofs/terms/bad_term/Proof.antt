@@ -23,10 +23,10 @@ abbrev μ-loop : tie.MeasureT-loop
 μ-loop s n at i₀ i = n - i
 
 at : (c : tie.After-table-of Inv-loop μ-loop) → c .table-of .result .at ≡ offsetOf (c .before .before .args .s .now) 4
-at c = cc
+at c = c .table-of .ensures .0 .begins
 
 count : (c : tie.After-table-of Inv-loop μ-loop) → c .table-of .result .count ≡ countOf (c .before .before .args .s .now) 4
-count c = cc
+count c = c .table-of .ensures .0 .counts
 
 inside : (c : tie.In-loop Inv-loop μ-loop) → c .before .before .table-of .result .at + 12 * c .before .loop .i + 12 ≤ length (c .before .before .before .before .args .s .now)
 inside c = omega (arith, at (c .before .before), count (c .before .before), c .before .before .before .before .pre .0 .placed 4 (omega arith))

@@ -10,7 +10,7 @@ use Rattle.sheet_records.proofs.terms.term_fits.Tie as tie
 -- the run's parts lie in the sheet
 inside : (c : tie.After-struct-known) → c .before .table-of .result .at + 6 * (c .before .before .before .args .r .first + c .before .before .before .args .r .count) ≤ length (c .before .before .before .args .s .now)
 inside c =
-    let e : c .before .table-of .result .at ≡ offsetOf (c .before .before .before .args .s .now) 3 = cc in
+    let e = c .before .table-of .ensures .0 .begins in
     omega (arith, c .before .before .before .pre .0 .placed 3 (omega arith), c .before .before .before .pre .1)
 
 term-len-requires : tie.Need-term-len-requires
@@ -19,9 +19,7 @@ term-len-requires c κs =
     (c .before .before .before .pre .0 .trailed, omega (arith, inside c), omega (arith, c .before .before .before .pre .1))
 
 returns : tie.Need-returns
-returns c =
-    let e : c .before .before .table-of .result .at ≡ offsetOf (c .before .before .before .before .args .s .now) 3 = cc in
-    rw (← e) (ap (λ (n : ℕ). leb n 60) (c .term-len .ensures))
+returns c = rw (← c .before .before .table-of .ensures .0 .begins) (ap (λ (n : ℕ). leb n 60) (c .term-len .ensures))
 
 pub term-fits-spec : {M : Type 1} → statement M
 term-fits-spec =
