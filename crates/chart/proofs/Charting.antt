@@ -20,7 +20,8 @@ use Rattle.workspace.proofs.Spans.{span-lt}
 use Rattle.groundwork.specs.Ground.{Ground}
 use Rattle.groundwork.specs.Places.{placesIn}
 use Rattle.chart_cells.specs.Steps.{Adds, Pairs, Chained, parted, carriedIn}
-use Rattle.chart.specs.Cells.{ranged, fitting, passing, derivable, emptied, Cell, Filled, Within, Grown, Charted}
+use Rattle.workspace.specs.Within.{Within}
+use Rattle.chart.specs.Cells.{ranged, fitting, passing, derivable, emptied, Cell, Filled, Grown, Charted}
 use Rattle.chart_cells.proofs.Adding.{kept-copied}
 use Rattle.chart.proofs.Reaching.{pairs-read, reach-chained}
 use Rattle.chart.proofs.Filling.{cell-done}

@@ -23,7 +23,8 @@ use Rattle.workspace.proofs.Bits.{wiped-bit}
 use Rattle.workspace.proofs.Spans.{lt-or-le, span-inj}
 use Rattle.groundwork.specs.Ground.{Ground}
 use Rattle.chart_cells.specs.Steps.{Kept, Adds, parted, brought, carriedIn}
-use Rattle.chart.specs.Cells.{ranged, fitting, splitting, passing, Cell, Filled, Within}
+use Rattle.workspace.specs.Within.{Within}
+use Rattle.chart.specs.Cells.{ranged, fitting, splitting, passing, Cell, Filled}
 use Rattle.chart_cells.proofs.Adding.{kept-then, kept-wiped}
 use Rattle.chart_cells.proofs.Splitting.{any-same}
 use Rattle.chart.proofs.Owning.{own-parts, splits-found}

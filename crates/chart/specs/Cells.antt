@@ -5,12 +5,12 @@ use mathlib.Core.Bool.{Bool, false, cond, _&&_}
 use mathlib.Core.List.{List}
 use lib.Dec.{eqb, leb, ltb}
 use lib.ListN.{length, getD, drop}
-use Rattle.paper.specs.Answers.{words}
 use Rattle.paper.specs.Tests.{allBelow}
 use Rattle.paper.specs.Rows.{Row, Empty, Range, Text, Alt, Seq, Star, Grammar, row, stretch}
 use Rattle.paper.specs.Decide.{Pattern, Test, fits, someIn, split, accepts}
 use Rattle.paper.specs.Sheet.{sheetOf, grammarOf}
 use Rattle.paper.specs.Opens.{pattern}
+use Rattle.workspace.specs.Within.{Within}
 use Rattle.workspace.specs.Spans.{spanAt}
 use Rattle.workspace.specs.Bits.{bitAt}
 use Rattle.groundwork.specs.Places.{placesIn}
@@ -87,11 +87,6 @@ pub record Cell (acc : Test) (m i : ℕ) (old new : List ℕ) : Type 0 where
 pub record Filled (acc : Test) (n M I : ℕ) (work : List ℕ) : Type 0 where
   pub shorter : (m i r : ℕ) → m < M → i + m ≤ n → r < 256 → bitAt work (spanAt i m) r ≡ acc m i r
   pub here : (i r : ℕ) → i < I → i + M ≤ n → r < 256 → bitAt work (spanAt i M) r ≡ acc M i r
-
--- only the workspace's first 7,564 words have changed
-pub record Within (old new : List ℕ) : Type 0 where
-  pub long : length new ≡ length old
-  pub rest : drop words new ≡ drop words old
 
 -- a level of the table, or all of it, is filled and nothing past the table has changed
 pub record Grown (acc : Test) (n M : ℕ) (old new : List ℕ) : Type 0 where

@@ -1,3 +1,4 @@
 pub mod Ground
+pub mod Lent
 pub mod Laying
 pub mod Places

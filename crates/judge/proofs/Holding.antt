@@ -17,7 +17,8 @@ use Rattle.paper.proofs.Tests.{and-left, and-right}
 use Rattle.groundwork.specs.Places.{placesIn}
 use Rattle.workspace.specs.Spans.{spanAt}
 use Rattle.workspace.specs.Bits.{bitAt}
-use Rattle.chart.specs.Cells.{Within, Charted}
+use Rattle.workspace.specs.Within.{Within}
+use Rattle.chart.specs.Cells.{Charted}
 use Rattle.chart.proofs.Filling.{within-none}
 use Rattle.terms.specs.Shown.{runOf}
 use Rattle.terms.proofs.Showing.{places-length}

@@ -20,7 +20,7 @@ use Rattle.paper.proofs.Tests.{all-of-at, at-all-of}
 use Rattle.sheet.specs.declared.Assertion.{Assertion}
 use Rattle.sheet.specs.Readers.{assertionOf}
 use Rattle.sheet.proofs.Contents.{assertions-length}
-use Rattle.chart.specs.Cells.{Within}
+use Rattle.workspace.specs.Within.{Within}
 use Rattle.terms.specs.declared.Places.{Places}
 use Rattle.terms.specs.Shown.{shown, runOf, Readable}
 use Rattle.chart.proofs.Filling.{within-none, within-then}

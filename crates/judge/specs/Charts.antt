@@ -12,7 +12,7 @@ use Rattle.paper.specs.Decide.{accepts}
 use Rattle.paper.specs.Opens.{pattern}
 use Rattle.workspace.specs.Spans.{spanAt}
 use Rattle.workspace.specs.Bits.{bitAt}
-use Rattle.chart.specs.Cells.{Within}
+use Rattle.workspace.specs.Within.{Within}
 use Rattle.terms.specs.Shown.{runOf}
 use Rattle.judge.specs.declared.held.Held.{Held}
 

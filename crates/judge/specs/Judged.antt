@@ -12,7 +12,7 @@ use Rattle.paper.specs.Opens.{can}
 use Rattle.sheet.specs.declared.Assertion.{Assertion}
 use Rattle.sheet.specs.Facts.{AssertionFacts, TermFacts}
 use Rattle.sheet.specs.Readers.{assertionOf}
-use Rattle.chart.specs.Cells.{Within}
+use Rattle.workspace.specs.Within.{Within}
 use Rattle.terms.specs.declared.Places.{Places}
 use Rattle.terms.specs.Shown.{shown}
 use Rattle.judge.specs.declared.Runs.{Runs}

@@ -12,7 +12,7 @@ ghost use Rattle.paper.specs.Opens.{can};
 ghost use Rattle.paper.specs.Opens as paper;
 ghost use Rattle.sheet.specs.Readers.{assertionOf};
 ghost use Rattle.groundwork.specs.Ground.{Ground};
-ghost use Rattle.chart.specs.Cells.{Within};
+ghost use Rattle.workspace.specs.Within.{Within};
 ghost use Rattle.terms.specs.Shown.{shown, Sized};
 ghost use Rattle.judge.specs.Judged.{Told, runsOf, Judged};
 ghost use Rattle.judge.specs.Charts.{Meant, Asked, Keeps};

@@ -14,7 +14,7 @@ ghost use Rattle.walk_state.specs.Letters.{hasLetter};
 ghost use Rattle.walk.specs.Counts.{Small};
 ghost use Rattle.walk.specs.Progress.{Classes};
 ghost use Rattle.groundwork.specs.Ground.{Ground};
-ghost use Rattle.chart.specs.Cells.{Within};
+ghost use Rattle.workspace.specs.Within.{Within};
 ghost use Rattle.search.specs.Tells.{Tells};
 
 // How a search ended: the number 0, 1 or 2, the word, the trials.

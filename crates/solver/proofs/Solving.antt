@@ -13,7 +13,7 @@ use Rattle.paper.specs.Opens.{opens}
 use Rattle.paper.specs.Walk.{walk}
 use Rattle.paper.specs.Answers.{Said, Found, None, Spent, Refused, Report, reportOf, outAfter, workAfter, words, zeroed, under, walkOf, solverRefusal, solverSays}
 use Rattle.paper.proofs.Meaning.{Means, answer-means}
-use Rattle.chart.specs.Cells.{Within}
+use Rattle.workspace.specs.Within.{Within}
 use Rattle.walk_state.specs.Letters.{hasLetter}
 use Rattle.search.specs.Tells.{Tells}
 use Rattle.search.specs.declared.Sought.{Sought}

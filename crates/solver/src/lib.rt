@@ -6,7 +6,7 @@ ghost use Rattle.paper.specs.Trailer.{longest};
 ghost use Rattle.paper.specs.Refusals.{refusal};
 ghost use Rattle.paper.specs.Sheet.{sheetOf};
 ghost use Rattle.paper.specs.Answers.{written, reportOf, outAfter, workAfter, under, walkOf};
-ghost use Rattle.chart.specs.Cells.{Within};
+ghost use Rattle.workspace.specs.Within.{Within};
 ghost use Rattle.search.specs.Tells.{Tells, foundReport};
 ghost use Rattle.solver.specs.Reported.{reported};
 ghost use Rattle.solver.specs.Promise.{says};

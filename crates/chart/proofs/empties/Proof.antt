@@ -3,7 +3,8 @@ use mathlib.Core.Path.{_≡_, refl, sym, ap, _∙_}
 use Prim.Native.Nat.{_≤_, _+_, _-_}
 use native.Mathlib.Omega.{arith}
 use borrow.Author.Needs.{needs}
-use Rattle.chart.specs.Cells.{emptied, Filled, Within}
+use Rattle.workspace.specs.Within.{Within}
+use Rattle.chart.specs.Cells.{emptied, Filled}
 use Rattle.chart.proofs.Filling.{filled-none, filled-more, filled-level, within-none, within-then, cell-within}
 use Rattle.chart.proofs.Charting.{empty-cell}
 use Rattle.chart.proofs.empties.Statement.{statement}

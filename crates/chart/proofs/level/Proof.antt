@@ -4,7 +4,8 @@ use Prim.Native.Nat.{_≤_, _+_, _-_}
 use native.Mathlib.Omega.{arith}
 use lib.ListN.{length}
 use borrow.Author.Needs.{needs}
-use Rattle.chart.specs.Cells.{derivable, Filled, Within}
+use Rattle.workspace.specs.Within.{Within}
+use Rattle.chart.specs.Cells.{derivable, Filled}
 use Rattle.chart.proofs.Filling.{filled-more, filled-level, within-none, within-then, cell-within}
 use Rattle.chart.proofs.level.Statement.{statement}
 use Rattle.chart.proofs.level.Tie as tie

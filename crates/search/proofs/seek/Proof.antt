@@ -6,7 +6,7 @@ use lib.ListN.{length}
 use Rattle.paper.specs.Sheet.{sheetOf}
 use Rattle.paper.specs.Opens.{opens}
 use Rattle.sheet.proofs.Good.{good}
-use Rattle.chart.specs.Cells.{Within}
+use Rattle.workspace.specs.Within.{Within}
 use Rattle.chart.proofs.Filling.{within-none, within-then}
 use Rattle.walk_state.specs.Letters.{hasLetter}
 use Rattle.walk.proofs.Seek.{Seeking, seek-start, seek-marks, seek-found, seek-spent, seek-over, seek-none, seek-next, seek-length}
