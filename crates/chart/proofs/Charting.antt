@@ -18,7 +18,7 @@ use Rattle.workspace.specs.Bits.{bitAt, wiped, copied}
 use Rattle.workspace.proofs.Bits.{copied-bit}
 use Rattle.workspace.proofs.Spans.{span-lt}
 use Rattle.groundwork.specs.Ground.{Ground}
-use Rattle.groundwork.specs.Places.{placesIn}
+use Rattle.workspace.specs.Places.{placesIn}
 use Rattle.chart_cells.specs.Steps.{Adds, Pairs, Chained, parted, carriedIn}
 use Rattle.workspace.specs.Within.{Within}
 use Rattle.chart.specs.Cells.{ranged, fitting, passing, derivable, emptied, Cell, Filled, Grown, Charted}

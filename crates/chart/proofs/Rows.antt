@@ -22,7 +22,7 @@ use Rattle.sheet.proofs.Good.{good}
 use Rattle.sheet.proofs.Contents.{rows-length, text-length}
 use Rattle.workspace.specs.Bits.{bit, bitAt}
 use Rattle.groundwork.specs.Ground.{Ground, lengthsAt}
-use Rattle.groundwork.specs.Places.{placesIn}
+use Rattle.workspace.specs.Places.{placesIn}
 use Rattle.chart.specs.Cells.{holds, ranged, fitting, among, passing, canHold, canHoldAll}
 use Rattle.chart.proofs.Owning.{among-all, no-holds, known-range, letter-ranges, text-held, no-text}
 

@@ -13,7 +13,7 @@ use Rattle.paper.specs.Opens.{pattern}
 use Rattle.workspace.specs.Within.{Within}
 use Rattle.workspace.specs.Spans.{spanAt}
 use Rattle.workspace.specs.Bits.{bitAt}
-use Rattle.groundwork.specs.Places.{placesIn}
+use Rattle.workspace.specs.Places.{placesIn}
 use Rattle.chart_cells.specs.Steps.{Kept}
 
 -- a range that holds the byte

@@ -10,7 +10,7 @@ ghost use Rattle.paper.specs.Sheet.{sheetOf, grammarOf, textOf};
 ghost use Rattle.paper.specs.Opens.{pattern};
 ghost use Rattle.workspace.specs.Bits.{bit};
 ghost use Rattle.groundwork.specs.Ground.{Ground, lengthsAt};
-ghost use Rattle.groundwork.specs.Places.{placesIn};
+ghost use Rattle.workspace.specs.Places.{placesIn};
 ghost use Rattle.chart_cells.specs.Steps.{Adds};
 ghost use Rattle.chart.specs.Cells.{«holds», ranged, fitting, among, passing, canHold, canHoldAll};
 

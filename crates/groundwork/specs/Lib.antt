@@ -1,4 +1,3 @@
 pub mod Ground
 pub mod Lent
 pub mod Laying
-pub mod Places

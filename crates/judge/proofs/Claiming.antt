@@ -13,7 +13,7 @@ use Rattle.paper.specs.Sheet.{Sheet, Derived, Contains, Equals, claimOf, sheetO
 use Rattle.paper.specs.Decide.{fits}
 use Rattle.paper.specs.Opens.{pattern, canHold}
 use Rattle.paper.proofs.Tests.{any-intro, any-elim}
-use Rattle.groundwork.specs.Places.{placesIn}
+use Rattle.workspace.specs.Places.{placesIn}
 use Rattle.groundwork.specs.Ground.{Ground}
 use Rattle.chart.specs.Cells.{canHoldAll}
 use Rattle.chart.proofs.Owning.{text-held}

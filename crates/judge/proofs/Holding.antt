@@ -14,7 +14,7 @@ use Rattle.paper.specs.Terms.{Place}
 use Rattle.paper.specs.Sheet.{Derived, sheetOf}
 use Rattle.paper.specs.Opens.{canHold}
 use Rattle.paper.proofs.Tests.{and-left, and-right}
-use Rattle.groundwork.specs.Places.{placesIn}
+use Rattle.workspace.specs.Places.{placesIn}
 use Rattle.workspace.specs.Spans.{spanAt}
 use Rattle.workspace.specs.Bits.{bitAt}
 use Rattle.workspace.specs.Within.{Within}

@@ -12,7 +12,7 @@ ghost use Rattle.paper.specs.Sheet.{sheetOf, Contains, Derived, claimOf};
 ghost use Rattle.paper.specs.Decide.{fits};
 ghost use Rattle.paper.specs.Opens.{pattern, canHold};
 ghost use Rattle.groundwork.specs.Ground.{Ground};
-ghost use Rattle.groundwork.specs.Places.{placesIn};
+ghost use Rattle.workspace.specs.Places.{placesIn};
 ghost use Rattle.workspace.specs.Within.{Within};
 ghost use Rattle.chart.specs.Cells.{Charted};
 ghost use Rattle.terms.specs.Shown.{shown, Sized};

@@ -17,7 +17,7 @@ use Rattle.paper.specs.Sheet.{Sheet, sheetOf, letter, Equals}
 use Rattle.paper.specs.Opens.{allows, meet, isUnknown, canHold}
 use Rattle.paper.proofs.Tests.{any-of-below, any-intro, any-elim, all-intro, all-elim, and-intro, same-test}
 use Rattle.sheet.proofs.Contents.{some-letter}
-use Rattle.groundwork.specs.Places.{placeOf, placesIn}
+use Rattle.workspace.specs.Places.{placeOf, placesIn}
 use Rattle.terms.specs.declared.Places.{Places}
 use Rattle.terms.specs.Shown.{shown, Sized}
 use Rattle.terms.proofs.Showing.{places-length}

@@ -12,7 +12,7 @@ use lib.ListN.{length, getD, take, drop, replicate, length-map, length-drop}
 use lib.Seq.{paste, take-paste, length-paste, length-take-le, getD-drop, drop-cons, take-take}
 use Rattle.paper.specs.Rows.{stretch}
 use Rattle.paper.specs.Terms.{Place, Known, Unknown, placesOf}
-use Rattle.groundwork.specs.Places.{placeOf, placesIn}
+use Rattle.workspace.specs.Places.{placeOf, placesIn}
 use Rattle.terms.specs.declared.Places.{Places}
 use Rattle.terms.specs.Shown.{shown, Sized, Bytes, pastedOf}
 

@@ -10,7 +10,7 @@ use Rattle.paper.specs.Trailer.{countOf, recordAt, longest}
 use Rattle.paper.specs.Records.{termLen}
 use Rattle.paper.specs.Terms.{Place, Part, Const, All, Cut, cutInside}
 use Rattle.paper.specs.Sheet.{Run, sheetOf, partsOf}
-use Rattle.groundwork.specs.Places.{placesIn}
+use Rattle.workspace.specs.Places.{placesIn}
 use Rattle.terms.specs.declared.Places.{Places}
 
 -- the first `len` of them

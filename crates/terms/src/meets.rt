@@ -6,7 +6,7 @@ ghost use Rattle.paper.specs.Refusals.{refusal};
 ghost use Rattle.paper.specs.Sheet.{sheetOf, Equals};
 ghost use Rattle.paper.specs.Opens.{isUnknown, canHold};
 ghost use Rattle.paper.specs.Opens as paper;
-ghost use Rattle.groundwork.specs.Places.{placeOf};
+ghost use Rattle.workspace.specs.Places.{placeOf};
 ghost use Rattle.terms.specs.Shown.{shown, Sized};
 
 // Some place is unknown.

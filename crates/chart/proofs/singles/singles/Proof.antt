@@ -6,7 +6,7 @@ use Rattle.paper.specs.Sheet.{sheetOf, grammarOf}
 use Rattle.paper.specs.Trailer.{countOf}
 use Rattle.paper.specs.Opens.{pattern}
 use Rattle.workspace.specs.Bits.{bitAt}
-use Rattle.groundwork.specs.Places.{placesIn}
+use Rattle.workspace.specs.Places.{placesIn}
 use Rattle.chart.specs.Cells.{holds, ranged, among, passing}
 use Rattle.chart_cells.proofs.Adding.{adds-none, adds-same, adds-joined}
 use Rattle.chart.proofs.Owning.{long-range}

@@ -5,7 +5,7 @@ use borrow.Author.Needs.{needs}
 use Rattle.paper.specs.Sheet.{sheetOf, textOf}
 use Rattle.paper.specs.Opens.{pattern}
 use Rattle.sheet.proofs.Contents.{text-length}
-use Rattle.groundwork.specs.Places.{placesIn}
+use Rattle.workspace.specs.Places.{placesIn}
 use Rattle.chart.proofs.Rows.{text-few, fitting-three, fitting-long, fitting-other, part-size, part-fits}
 use Rattle.chart.proofs.singles.text_fits.Statement.{statement}
 use Rattle.chart.proofs.singles.text_fits.Tie as tie

@@ -9,7 +9,7 @@ use Rattle.paper.specs.Trailer.{countOf}
 use Rattle.paper.specs.Sheet.{sheetOf, grammarOf, textOf}
 use Rattle.paper.specs.Opens.{pattern}
 use Rattle.sheet.proofs.Good.{good}
-use Rattle.groundwork.specs.Places.{placesIn}
+use Rattle.workspace.specs.Places.{placesIn}
 use Rattle.chart_cells.specs.Steps.{Adds, only}
 use Rattle.chart.specs.Cells.{fitting, among, passing}
 use Rattle.chart_cells.proofs.Adding.{adds-none, adds-same}
