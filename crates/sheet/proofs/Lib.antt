@@ -1,4 +1,5 @@
 pub mod Good
 pub mod Contents
 pub mod Records
+pub mod Rows
 pub mod Soundness
