@@ -15,4 +15,5 @@ pub mod Order
 pub mod Cuts
 pub mod Gate
 pub mod Answers
+pub mod Promises
 pub mod Keys

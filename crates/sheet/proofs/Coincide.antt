@@ -2,10 +2,11 @@
 -- Assumes nothing.
 use Prim.Native.Nat.{ℕ}
 use mathlib.Core.List.{List}
-use mathlib.Core.Path.{_≡_, refl, sym, ap, _∙_}
+use mathlib.Core.Path.{_≡_, refl, sym, _∙_}
 use mathlib.Core.Bool.{cond}
 use lib.Dec.{eqb}
-use Rattle.paper.specs.Refusals.{refusal}
+use Rattle.paper.specs.Promises.{Checks}
+use Rattle.paper.proofs.Coincide.{told}
 use Rattle.sheet.specs.Verdict.{numberOf}
 use Rattle.sheet.specs.declared.Verdict.{Verdict}
 use Rattle.sheet.specs.declared.Verdict.the-variants.{Accepted, Short, Long, Mark, Total, Counts, Offsets, Record, Term}
@@ -32,5 +33,5 @@ back Offsets = refl
 back Record = refl
 back Term = refl
 
-pub coincide : (s : List ℕ) (v w : Verdict) → numberOf v ≡ refusal s → numberOf w ≡ refusal s → v ≡ w
-coincide s v w p q = sym (back v) ∙ ap verdictOf (p ∙ sym q) ∙ back w
+pub coincide : (s : List ℕ) (v w : Verdict) → Checks s (numberOf v) → Checks s (numberOf w) → v ≡ w
+coincide s v w p q = told numberOf verdictOf back v w (p ∙ sym q)

@@ -8,6 +8,7 @@ ghost use Rattle.paper.specs.Bytes.{u8At};
 ghost use Rattle.paper.specs.Trailer.{offsetOf, countOf};
 ghost use Rattle.paper.specs.Refusals.{contentRefusal, tableRefusal, refusal};
 ghost use Rattle.paper.specs.Sheet.{letter, textOf, sheetOf};
+ghost use Rattle.paper.specs.Promises.{Checks};
 ghost use Rattle.trailer.specs.Placed.{Placed};
 ghost use Rattle.sheet.specs.Verdict.{numberOf};
 ghost use Rattle.sheet.specs.Readers.{trailerOf, FieldsAt, AssertionFields, RowRead, PartRead, AssertionRead};
@@ -75,7 +76,7 @@ fn check_tables(s: &[u8]) -> Verdict
 
 // The first fault of any bytes.
 pub fn check(s: &[u8]) -> Verdict
-    ensures { λ r. ⌜ numberOf r ≡ refusal (now (s .entry)) ⌝ }
+    ensures { λ r. ⌜ Checks (now (s .entry)) (numberOf r) ⌝ }
 {
     if s.len() < 32 {
         return Verdict::Short;

@@ -9,7 +9,7 @@ use borrow.Author.Tests.{lt-ltb, le-ltb, eq-eqb, ne-eqb}
 use lib.Dec.{eqb, ltb}
 use lib.ListN.{length, getD, take, List·getD-map}
 use lib.Seq.{length-take-le, getD-take}
-use Rattle.paper.specs.Bytes.{u8At}
+use Rattle.paper.specs.Bytes.{OfBytes}
 use Rattle.paper.specs.Tests.{anyBelow, allBelow, anyOf}
 use Rattle.paper.specs.Refusals.{refusal}
 use Rattle.paper.specs.Terms.{Place, Known, Unknown}
@@ -102,7 +102,7 @@ module _ (s : List ℕ) (ok : refusal s ≡ 0) (x y : ℕ) where
   unfolding meet
   meet-right a b = rw (place-unknown x a, place-known y b)
 
-  pub meet-none : ((i : ℕ) → u8At s i < 256) → 256 ≤ x → 256 ≤ y → true ≡ meet (sheetOf s) (placeOf x) (placeOf y)
+  pub meet-none : OfBytes s → 256 ≤ x → 256 ≤ y → true ≡ meet (sheetOf s) (placeOf x) (placeOf y)
   unfolding meet
   meet-none h a b =
       let w = some-letter s h ok in
