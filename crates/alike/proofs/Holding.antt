@@ -13,9 +13,9 @@ use lib.ListN.{length, getD, replicate, length-replicate, getD-replicate, List·
 use borrow.Author.Tests.{lt-ltb, le-ltb, le-leb, lt-leb, eq-eqb, ne-eqb}
 use Rattle.paper.specs.Rows.{Empty, Range, Text, Alt, Seq, Star, Grammar, row, noRow, rowOf}
 use Rattle.paper.proofs.Tests.{or-false}
-use Rattle.table.specs.Bits.{bit, bitAt, setBit, wordAt}
-use Rattle.table.proofs.Bits.{length-set-bit, set-bit-same, set-bit-other, set-bit-apart}
-use Rattle.table.proofs.Words.{bit-zero, of-four}
+use Rattle.workspace.specs.Bits.{bit, bitAt, setBit, wordAt}
+use Rattle.workspace.proofs.Bits.{length-set-bit, set-bit-same, set-bit-other, set-bit-apart}
+use Rattle.workspace.proofs.Words.{bit-zero, of-four}
 use Rattle.alike.specs.Untold.{holds}
 use Rattle.alike.specs.Slots.{between, Added, Holders, SameRows}
 

@@ -7,7 +7,7 @@ use lib.Dec.{eqb, ltb, leb}
 use lib.ListN.{length, getD}
 use Rattle.paper.specs.Rows.{Grammar, row}
 use Rattle.paper.specs.Sheet.{Sheet, Run, letter}
-use Rattle.table.specs.Bits.{bitAt}
+use Rattle.workspace.specs.Bits.{bitAt}
 use Rattle.walk.specs.Counts.{Small}
 use Rattle.alike.specs.Untold.{holds, Absent}
 

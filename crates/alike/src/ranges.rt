@@ -17,7 +17,7 @@ fn hold(ws: &mut [u64], r: usize, lo: usize, hi: usize)
 {
     let mut x = lo;
     while x <= hi {
-        table::set(ws, x, r);
+        workspace::set(ws, x, r);
         x += 1;
     }
 }

@@ -13,15 +13,15 @@ use Rattle.paper.specs.Sheet.{sheetOf, grammarOf, textOf}
 use Rattle.paper.specs.Opens.{pattern}
 use Rattle.paper.proofs.Derivation.{accepts-level}
 use Rattle.sheet.proofs.Contents.{rows-length}
-use Rattle.table.specs.Spans.{spanAt}
-use Rattle.table.specs.Bits.{bitAt, wiped, copied}
-use Rattle.table.proofs.Bits.{copied-bit}
-use Rattle.table.proofs.Spans.{span-lt}
+use Rattle.workspace.specs.Spans.{spanAt}
+use Rattle.workspace.specs.Bits.{bitAt, wiped, copied}
+use Rattle.workspace.proofs.Bits.{copied-bit}
+use Rattle.workspace.proofs.Spans.{span-lt}
 use Rattle.groundwork.specs.Ground.{Ground}
 use Rattle.groundwork.specs.Places.{placesIn}
-use Rattle.cells.specs.Steps.{Adds, Pairs, Chained, parted, carriedIn}
+use Rattle.chart_cells.specs.Steps.{Adds, Pairs, Chained, parted, carriedIn}
 use Rattle.chart.specs.Cells.{ranged, fitting, passing, derivable, emptied, Cell, Filled, Within, Grown, Charted}
-use Rattle.cells.proofs.Adding.{kept-copied}
+use Rattle.chart_cells.proofs.Adding.{kept-copied}
 use Rattle.chart.proofs.Reaching.{pairs-read, reach-chained}
 use Rattle.chart.proofs.Filling.{cell-done}
 use Rattle.chart.proofs.Rows.{grammar-few}

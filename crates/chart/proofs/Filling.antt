@@ -17,15 +17,15 @@ use Rattle.paper.specs.Sheet.{Sheet}
 use Rattle.paper.proofs.Tests.{any-intro, and-intro, and-right, any-none, or-false, or-cases, or-right, or-assoc, same-test}
 use Rattle.paper.proofs.Reaching.{reaches-from}
 use Rattle.paper.proofs.Derivation.{accepts-level}
-use Rattle.table.specs.Spans.{spanAt}
-use Rattle.table.specs.Bits.{bitAt, wiped}
-use Rattle.table.proofs.Bits.{wiped-bit}
-use Rattle.table.proofs.Spans.{lt-or-le, span-inj}
+use Rattle.workspace.specs.Spans.{spanAt}
+use Rattle.workspace.specs.Bits.{bitAt, wiped}
+use Rattle.workspace.proofs.Bits.{wiped-bit}
+use Rattle.workspace.proofs.Spans.{lt-or-le, span-inj}
 use Rattle.groundwork.specs.Ground.{Ground}
-use Rattle.cells.specs.Steps.{Kept, Adds, parted, brought, carriedIn}
+use Rattle.chart_cells.specs.Steps.{Kept, Adds, parted, brought, carriedIn}
 use Rattle.chart.specs.Cells.{ranged, fitting, splitting, passing, Cell, Filled, Within}
-use Rattle.cells.proofs.Adding.{kept-then, kept-wiped}
-use Rattle.cells.proofs.Splitting.{any-same}
+use Rattle.chart_cells.proofs.Adding.{kept-then, kept-wiped}
+use Rattle.chart_cells.proofs.Splitting.{any-same}
 use Rattle.chart.proofs.Owning.{own-parts, splits-found}
 
 module _ (S : Sheet) (pat : Pattern) where

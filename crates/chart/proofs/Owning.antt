@@ -21,14 +21,14 @@ use Rattle.paper.specs.Sheet.{Sheet, letter}
 use Rattle.paper.specs.Opens.{allows, pattern}
 use Rattle.paper.proofs.Tests.{any-intro, any-elim, all-intro, all-elim, and-intro, and-left, and-right, or-false, same-test}
 use Rattle.paper.proofs.Derivation.{at-fits, fits-at, stretch-part}
-use Rattle.table.specs.Spans.{spanAt}
-use Rattle.table.specs.Bits.{bit, bitAt}
+use Rattle.workspace.specs.Spans.{spanAt}
+use Rattle.workspace.specs.Bits.{bit, bitAt}
 use Rattle.groundwork.specs.Ground.{Ground, Splits, someLetter, pairWord, pairsAt, countAt, lengthsAt}
 use Rattle.groundwork.specs.Places.{placeOf, placesIn}
-use Rattle.cells.specs.Steps.{Adds, only, both, paired, parted}
+use Rattle.chart_cells.specs.Steps.{Adds, only, both, paired, parted}
 use Rattle.chart.specs.Cells.{holds, ranged, fitting, splitting, among, passing, canHold, canHoldAll}
-use Rattle.cells.proofs.Adding.{adds-then}
-use Rattle.cells.proofs.Splitting.{any-same, any-fails}
+use Rattle.chart_cells.proofs.Adding.{adds-then}
+use Rattle.chart_cells.proofs.Splitting.{any-same, any-fails}
 use Rattle.chart.proofs.Reaching.{accepted-below, word-row, word-first, word-second}
 
 -- the steps of a cell together

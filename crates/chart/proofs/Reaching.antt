@@ -11,11 +11,11 @@ use Rattle.paper.specs.Decide.{Pattern, reaches, accepts}
 use Rattle.paper.specs.Sheet.{Sheet}
 use Rattle.paper.proofs.Reaching.{derives-below, reaches-sound, reaches-from}
 use Rattle.paper.proofs.Derivation.{accepts-right}
-use Rattle.table.specs.Bits.{bitAt}
-use Rattle.table.proofs.Bits.{bit-past}
-use Rattle.table.proofs.Spans.{lt-or-le}
+use Rattle.workspace.specs.Bits.{bitAt}
+use Rattle.workspace.proofs.Bits.{bit-past}
+use Rattle.workspace.proofs.Spans.{lt-or-le}
 use Rattle.groundwork.specs.Ground.{Ground, pairWord, pairsAt, countAt}
-use Rattle.cells.specs.Steps.{Pairs, Chained}
+use Rattle.chart_cells.specs.Steps.{Pairs, Chained}
 
 -- a bit that is set is a row's
 pub bit-row : (ws : List ℕ) (s r : ℕ) → bitAt ws s r ≡ true → r < 256

@@ -20,7 +20,7 @@ use Rattle.paper.specs.Opens.{pattern}
 use Rattle.paper.proofs.Tests.{all-elim, true-or-false}
 use Rattle.sheet.proofs.Good.{good}
 use Rattle.sheet.proofs.Contents.{rows-length, text-length}
-use Rattle.table.specs.Bits.{bit, bitAt}
+use Rattle.workspace.specs.Bits.{bit, bitAt}
 use Rattle.groundwork.specs.Ground.{Ground, lengthsAt}
 use Rattle.groundwork.specs.Places.{placesIn}
 use Rattle.chart.specs.Cells.{holds, ranged, fitting, among, passing, canHold, canHoldAll}

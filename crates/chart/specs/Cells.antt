@@ -11,10 +11,10 @@ use Rattle.paper.specs.Rows.{Row, Empty, Range, Text, Alt, Seq, Star, Grammar, 
 use Rattle.paper.specs.Decide.{Pattern, Test, fits, someIn, split, accepts}
 use Rattle.paper.specs.Sheet.{sheetOf, grammarOf}
 use Rattle.paper.specs.Opens.{pattern}
-use Rattle.table.specs.Spans.{spanAt}
-use Rattle.table.specs.Bits.{bitAt}
+use Rattle.workspace.specs.Spans.{spanAt}
+use Rattle.workspace.specs.Bits.{bitAt}
 use Rattle.groundwork.specs.Places.{placesIn}
-use Rattle.cells.specs.Steps.{Kept}
+use Rattle.chart_cells.specs.Steps.{Kept}
 
 -- a range that holds the byte
 unfoldable pub holds : ℕ → Row → Bool

@@ -7,8 +7,8 @@ ghost use Prim.Native.Nat.{_+_, _*_, _≤_, _<_};
 ghost use lib.ListN.{length};
 ghost use Rattle.paper.specs.Refusals.{refusal};
 ghost use Rattle.paper.specs.Sheet.{sheetOf};
-ghost use Rattle.table.specs.Spans.{spanAt};
-ghost use Rattle.table.specs.Bits.{bitAt};
+ghost use Rattle.workspace.specs.Spans.{spanAt};
+ghost use Rattle.workspace.specs.Bits.{bitAt};
 ghost use Rattle.groundwork.specs.Ground.{Ground};
 ghost use Rattle.chart.specs.Cells.{derivable, emptied, Cell, Filled, Grown, Charted};
 
@@ -17,13 +17,13 @@ fn cell(s: &[u8], places: &[u16], lay: &[u64], work: &mut [u64], i: usize, m: us
     requires { ⌜ (refusal (now s) ≡ 0) × Ground (sheetOf (now s)) (now lay) × (0 < m) × (i + m ≤ length (now places)) × (length (now places) ≤ 60) × (7564 ≤ length (now work)) × Filled (derivable (now s) (now places)) (length (now places)) m i (now work) ⌝ }
     ensures { λ _. ⌜ Cell (derivable (now (s .entry)) (now (places .entry))) m i (now (work .entry)) (now (work .exit)) ⌝ }
 {
-    let sp = table::span(i, m);
-    table::wipe(work, sp);
+    let sp = workspace::span(i, m);
+    workspace::wipe(work, sp);
     singles::singles(s, places, lay, work, i, m, sp);
     singles::texts(s, places, lay, work, i, m, sp);
-    cells::splits(lay, work, i, m, sp);
-    let rows = trailer::field(s, 7);
-    cells::carry(lay, work, sp, rows);
+    chart_cells::splits(lay, work, i, m, sp);
+    let rows = sheet_trailer::field(s, 7);
+    chart_cells::carry(lay, work, sp, rows);
 }
 
 // Every span of m places.
@@ -46,8 +46,8 @@ fn empties(lay: &[u64], work: &mut [u64], n: usize)
 {
     let mut i = 0;
     while i <= n {
-        let sp = table::span(i, 0);
-        table::copy(work, sp, lay, 256);
+        let sp = workspace::span(i, 0);
+        workspace::copy(work, sp, lay, 256);
         i += 1;
     }
 }
@@ -71,6 +71,6 @@ pub fn derives(len: usize, row: usize, work: &[u64]) -> bool
     requires { ⌜ (len ≤ 60) × (row < 256) × (7564 ≤ length (now work)) ⌝ }
     ensures { λ r. ⌜ r ≡ bitAt (now (work .entry)) (spanAt 0 len) row ⌝ }
 {
-    let sp = table::span(0, len);
-    table::test(work, sp, row)
+    let sp = workspace::span(0, len);
+    workspace::test(work, sp, row)
 }

@@ -8,10 +8,10 @@ ghost use Rattle.paper.specs.Trailer.{offsetOf, countOf};
 ghost use Rattle.paper.specs.Refusals.{refusal};
 ghost use Rattle.paper.specs.Sheet.{sheetOf, grammarOf, textOf};
 ghost use Rattle.paper.specs.Opens.{pattern};
-ghost use Rattle.table.specs.Bits.{bit};
+ghost use Rattle.workspace.specs.Bits.{bit};
 ghost use Rattle.groundwork.specs.Ground.{Ground, lengthsAt};
 ghost use Rattle.groundwork.specs.Places.{placesIn};
-ghost use Rattle.cells.specs.Steps.{Adds};
+ghost use Rattle.chart_cells.specs.Steps.{Adds};
 ghost use Rattle.chart.specs.Cells.{«holds», ranged, fitting, among, passing, canHold, canHoldAll};
 
 // Whether row q is a range that holds the byte x.
@@ -31,12 +31,12 @@ fn ranges(s: &[u8], x: usize, work: &mut [u64], sp: usize)
     requires { ⌜ (refusal (now s) ≡ 0) × (sp < 1891) × (7564 ≤ length (now work)) ⌝ }
     ensures { λ _. ⌜ Adds sp (among (grammarOf (now (s .entry))) («holds» x) (countOf (now (s .entry)) 2)) (now (work .entry)) (now (work .exit)) ⌝ }
 {
-    let at = trailer::field(s, 6);
-    let n = trailer::field(s, 7);
+    let at = sheet_trailer::field(s, 6);
+    let n = sheet_trailer::field(s, 7);
     let mut q = 0;
     while q < n {
         let on = holds(s, at, q, x);
-        cells::put(work, sp, q, on);
+        chart_cells::put(work, sp, q, on);
         q += 1;
     }
 }
@@ -62,7 +62,7 @@ pub fn singles(
         ranges(s, x, work, sp);
         return;
     }
-    table::join(work, sp, lay, 257);
+    workspace::join(work, sp, lay, 257);
 }
 
 // Whether the place x can hold the byte b, which stands at k in the sheet's text.
@@ -73,7 +73,7 @@ fn can_hold(lay: &[u64], x: usize, k: usize, b: usize) -> bool
     if x < 256 {
         return b == x;
     }
-    table::test(lay, 258 + k / 256, k % 256)
+    workspace::test(lay, 258 + k / 256, k % 256)
 }
 
 // Whether the places from i on can hold a part of the sheet's text, which stands at `off` in it.
@@ -136,13 +136,13 @@ pub fn texts(s: &[u8], places: &[u16], lay: &[u64], work: &mut [u64], i: usize, 
     if !has_length(lay, m) {
         return;
     }
-    let at = trailer::field(s, 6);
-    let n = trailer::field(s, 7);
+    let at = sheet_trailer::field(s, 6);
+    let n = sheet_trailer::field(s, 7);
     let text = sheet::text_of(s);
     let mut q = 0;
     while q < n {
         let on = text_fits(s, at, text, q, places, i, m, lay);
-        cells::put(work, sp, q, on);
+        chart_cells::put(work, sp, q, on);
         q += 1;
     }
 }

@@ -20,10 +20,10 @@ use Rattle.paper.specs.Gate.{nOf, rowsOf, rootOf, optionCount, headAt, optionAt
 use Rattle.paper.proofs.Tests.{any-none, any-suc, any-of-table}
 use Rattle.paper.proofs.Obeys.{Obeys}
 use Rattle.paper.proofs.WellFormed.{Formed, formed-level}
-use Rattle.table.specs.Spans.{spanAt}
-use Rattle.table.specs.Bits.{bitAt, setBit}
-use Rattle.table.proofs.Spans.{lt-or-le, span-lt, span-inj}
-use Rattle.table.proofs.Bits.{length-set-bit, set-bit-same, set-bit-other, set-bit-apart, drop-set-bit, zeroed-bit, length-zeroed, drop-zeroed, zeroed-same}
+use Rattle.workspace.specs.Spans.{spanAt}
+use Rattle.workspace.specs.Bits.{bitAt, setBit}
+use Rattle.workspace.proofs.Spans.{lt-or-le, span-lt, span-inj}
+use Rattle.workspace.proofs.Bits.{length-set-bit, set-bit-same, set-bit-other, set-bit-apart, drop-set-bit, zeroed-bit, length-zeroed, drop-zeroed, zeroed-same}
 use Rattle.list.proofs.Formed.{option-obeys}
 use Rattle.gate.specs.Marks.{inTable, inTurn, markStart, markOption, markAt, markHead, markGroup, marked}
 

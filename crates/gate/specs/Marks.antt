@@ -6,8 +6,8 @@ use lib.ListN.{length}
 use Rattle.paper.specs.Decide.{Test, exactly}
 use Rattle.paper.specs.Cuts.{Opt}
 use Rattle.paper.specs.Gate.{nOf, rowsOf, optionCount, headAt, optionAt, optOf, holds}
-use Rattle.table.specs.Spans.{spanAt}
-use Rattle.table.specs.Bits.{bitAt, setBit}
+use Rattle.workspace.specs.Spans.{spanAt}
+use Rattle.workspace.specs.Bits.{bitAt, setBit}
 
 -- what the table says of a length, a place and a row
 unfoldable pub inTable : List ℕ → Test

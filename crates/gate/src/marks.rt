@@ -42,10 +42,10 @@ fn holds(text: &[u8], word: &[u8], work: &[u64], x: Opt, m: usize, i: usize) -> 
             stands(&text[a..e], word, i)
         }
         Opt::Split(k, a, b) => {
-            let s = table::span(i, k);
-            let t = table::span(i + k, m - k);
-            if table::test(work, s, a) {
-                table::test(work, t, b)
+            let s = workspace::span(i, k);
+            let t = workspace::span(i + k, m - k);
+            if workspace::test(work, s, a) {
+                workspace::test(work, t, b)
             } else {
                 false
             }
@@ -61,8 +61,8 @@ fn mark_start(text: &[u8], word: &[u8], work: &mut [u64], x: Opt, m: usize, r: u
     if !holds(text, word, work, x, m, i) {
         return;
     }
-    let s = table::span(i, m);
-    table::set(work, s, r);
+    let s = workspace::span(i, m);
+    workspace::set(work, s, r);
 }
 
 // An option at each start.
@@ -140,7 +140,7 @@ fn answered(used: &mut [u64], yes: bool) -> bool
     requires { ⌜ 7564 ≤ length (now used) ⌝ }
     ensures { λ r. ⌜ (r ≡ yes) × (now (used .exit) ≡ zeroed words (now (used .entry))) ⌝ }
 {
-    table::clear(used);
+    workspace::clear(used);
     yes
 }
 
@@ -150,9 +150,9 @@ pub fn read(list: &[u8], text: &[u8], word: &[u8], work: &mut [u64]) -> bool
     ensures { λ r. ⌜ (r ≡ reading (now (list .entry)) (now (text .entry)) (now (word .entry))) × (now (work .exit) ≡ zeroed words (now (work .entry))) ⌝ }
 {
     let t = fields::trailer_of(list);
-    table::clear(work);
+    workspace::clear(work);
     mark_groups(list, text, word, work, t.rows);
-    let s = table::span(0, word.len());
-    let yes = table::test(work, s, t.root);
+    let s = workspace::span(0, word.len());
+    let yes = workspace::test(work, s, t.root);
     answered(work, yes)
 }

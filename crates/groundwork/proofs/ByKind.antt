@@ -19,8 +19,8 @@ use Rattle.paper.specs.Tests.{anyBelow}
 use Rattle.paper.specs.Rows.{Row, Empty, Range, Text, Alt, Seq, Star, rowOf}
 use Rattle.paper.specs.Sheet.{Sheet}
 use Rattle.paper.proofs.Tests.{any-none}
-use Rattle.table.specs.Bits.{bit}
-use Rattle.table.proofs.Words.{mark-same, mark-other}
+use Rattle.workspace.specs.Bits.{bit}
+use Rattle.workspace.proofs.Words.{mark-same, mark-other}
 use Rattle.groundwork.specs.Ground.{pairWord, Splits, someLetter}
 use Rattle.groundwork.specs.Laying.{letterFrom, Proper, Paired, LengthTold}
 use Rattle.groundwork.proofs.Frame.{below-refl, below-set}

@@ -9,9 +9,9 @@ use native.Mathlib.Omega.{arith}
 use lib.ListN.{length, set, length-set}
 use lib.Seq.{getD-set-other}
 use borrow.Author.Tests.{le-ltb}
-use Rattle.table.specs.Bits.{putBit, bitAt, setBit, fourAt, wiped}
-use Rattle.table.proofs.Spans.{lt-or-le}
-use Rattle.table.proofs.Bits.{set-bit-same, set-bit-other, set-bit-apart}
+use Rattle.workspace.specs.Bits.{putBit, bitAt, setBit, fourAt, wiped}
+use Rattle.workspace.proofs.Spans.{lt-or-le}
+use Rattle.workspace.proofs.Bits.{set-bit-same, set-bit-other, set-bit-apart}
 use Rattle.groundwork.specs.Laying.{Below}
 
 pub below-refl : {k : ℕ} (ws : List ℕ) → Below k ws ws

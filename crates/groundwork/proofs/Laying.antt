@@ -15,10 +15,10 @@ use Rattle.paper.proofs.Reaching.{outside}
 use Rattle.paper.specs.Rows.{Range, Text, Seq, Star, Grammar, row}
 use Rattle.paper.specs.Refusals.{refusal}
 use Rattle.paper.specs.Sheet.{Sheet, letter, textOf, grammarOf, sheetOf}
-use Rattle.table.specs.Bits.{putBit, bitAt, wiped, copied}
-use Rattle.table.proofs.Spans.{lt-or-le}
-use Rattle.table.proofs.Words.{of-four}
-use Rattle.table.proofs.Bits.{length-wiped, wiped-bit, wiped-apart, copied-bit, copied-apart}
+use Rattle.workspace.specs.Bits.{putBit, bitAt, wiped, copied}
+use Rattle.workspace.proofs.Spans.{lt-or-le}
+use Rattle.workspace.proofs.Words.{of-four}
+use Rattle.workspace.proofs.Bits.{length-wiped, wiped-bit, wiped-apart, copied-bit, copied-apart}
 use Rattle.sheet.specs.declared.Fields.{Fields}
 use Rattle.sheet.specs.declared.Trailer.{Trailer}
 use Rattle.sheet.specs.Readers.{trailerOf, RowRead}

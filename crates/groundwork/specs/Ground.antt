@@ -11,7 +11,7 @@ use Rattle.paper.specs.Tests.{anyBelow}
 use Rattle.paper.specs.Rows.{Row, Empty, Range, Text, Alt, Seq, Star, Grammar, row}
 use Rattle.paper.specs.Decide.{nullable, reaches}
 use Rattle.paper.specs.Sheet.{Sheet, letter}
-use Rattle.table.specs.Bits.{bit, bitAt}
+use Rattle.workspace.specs.Bits.{bit, bitAt}
 
 -- the words of the groundwork, and where its pairs, its text lengths and its count of pairs stand
 abbrev pub size : ℕ

@@ -7,7 +7,7 @@ use lib.ListN.{length, getD}
 use Rattle.paper.specs.Rows.{Row, Text, Grammar, row}
 use Rattle.paper.specs.Decide.{nullable, reaches}
 use Rattle.paper.specs.Sheet.{Sheet, letter}
-use Rattle.table.specs.Bits.{bit, bitAt, setBit}
+use Rattle.workspace.specs.Bits.{bit, bitAt, setBit}
 use Rattle.groundwork.specs.Ground.{pairsAt, pairWord, Splits, someLetter}
 
 -- the words below k are kept

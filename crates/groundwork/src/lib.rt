@@ -17,7 +17,7 @@ fn closures(s: &[u8], at: usize, n: usize, out: &mut [u64])
     let mut empty = [0u64; 4];
     rows::nulls(s, at, n, &mut empty);
     rows::reach(s, at, n, &empty, out);
-    table::copy(out, 256, &empty, 0);
+    workspace::copy(out, 256, &empty, 0);
 }
 
 // Some byte from low to high is a letter.
@@ -52,12 +52,12 @@ fn ranges(s: &[u8], at: usize, n: usize, out: &mut [u64])
     requires { ⌜ RowsAt (now s) at n × (length (now out) ≡ 1306) ⌝ }
     ensures { λ _. ⌜ Ranges (sheetOf (now (s .entry))) (grammarOf (now (s .entry))) n (now (out .exit)) × Below 1028 (now (out .entry)) (now (out .exit)) ⌝ }
 {
-    table::wipe(out, 257);
+    workspace::wipe(out, 257);
     let mut q = 0;
     while q < n {
         let f = sheet::row_at(s, at, q);
         let on = holds_letter(s, f);
-        table::put(out, 257, q, on);
+        workspace::put(out, 257, q, on);
         q += 1;
     }
 }
@@ -67,10 +67,10 @@ fn wipe_texts(out: &mut [u64])
     requires { ⌜ length (now out) ≡ 1306 ⌝ }
     ensures { λ _. ⌜ NoTexts (now (out .exit)) × Below 1032 (now (out .entry)) (now (out .exit)) ⌝ }
 {
-    table::wipe(out, 258);
-    table::wipe(out, 259);
-    table::wipe(out, 260);
-    table::wipe(out, 261);
+    workspace::wipe(out, 258);
+    workspace::wipe(out, 259);
+    workspace::wipe(out, 260);
+    workspace::wipe(out, 261);
 }
 
 // The bytes of the text that are letters.
@@ -82,7 +82,7 @@ fn texts(s: &[u8], text: &[u8], out: &mut [u64])
     let mut k = 0;
     while k < text.len() {
         let on = sheet::is_letter(s, text[k]);
-        table::put(out, 258 + k / 256, k % 256, on);
+        workspace::put(out, 258 + k / 256, k % 256, on);
         k += 1;
     }
 }

@@ -15,8 +15,8 @@ use Rattle.paper.specs.Sheet.{Derived, sheetOf}
 use Rattle.paper.specs.Opens.{canHold}
 use Rattle.paper.proofs.Tests.{and-left, and-right}
 use Rattle.groundwork.specs.Places.{placesIn}
-use Rattle.table.specs.Spans.{spanAt}
-use Rattle.table.specs.Bits.{bitAt}
+use Rattle.workspace.specs.Spans.{spanAt}
+use Rattle.workspace.specs.Bits.{bitAt}
 use Rattle.chart.specs.Cells.{Within, Charted}
 use Rattle.chart.proofs.Filling.{within-none}
 use Rattle.terms.specs.Shown.{runOf}

@@ -10,8 +10,8 @@ use Rattle.paper.specs.Terms.{Place, Known, term}
 use Rattle.paper.specs.Sheet.{Sheet, Run, sheetOf, grammarOf, partsOf}
 use Rattle.paper.specs.Decide.{accepts}
 use Rattle.paper.specs.Opens.{pattern}
-use Rattle.table.specs.Spans.{spanAt}
-use Rattle.table.specs.Bits.{bitAt}
+use Rattle.workspace.specs.Spans.{spanAt}
+use Rattle.workspace.specs.Bits.{bitAt}
 use Rattle.chart.specs.Cells.{Within}
 use Rattle.terms.specs.Shown.{runOf}
 use Rattle.judge.specs.declared.held.Held.{Held}

@@ -115,9 +115,9 @@ pub fn opens(s: &[u8], prefix: &[u8], n: usize, lay: &[u64], work: &mut [u64]) -
     ensures { λ r. ⌜ (r ≡ paper.opens (sheetOf (now (s .entry))) n (now (prefix .entry))) × Within (now (work .entry)) (now (work .exit)) ⌝ }
 {
     let v = terms::all_of_v(prefix, n);
-    let at = trailer::field(s, 8);
-    let from = trailer::field(s, 10);
-    let count = trailer::field(s, 11);
+    let at = sheet_trailer::field(s, 8);
+    let from = sheet_trailer::field(s, 10);
+    let count = sheet_trailer::field(s, 11);
     // what the workspace has from an earlier call is of another prefix
     let mut held = held::Held {
         any: false,

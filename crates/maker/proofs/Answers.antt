@@ -21,9 +21,9 @@ use Rattle.paper.proofs.Encoding.{length-u32, length-list}
 use Rattle.sheet.specs.declared.Trailer.{Trailer}
 use Rattle.sheet.specs.Readers.{trailerOf}
 use Rattle.sheet.proofs.Good.{good}
-use Rattle.options.specs.Prepared.{Offsets, JobOf}
-use Rattle.groups.specs.Parts.{Put, mark}
-use Rattle.groups.proofs.Stores.{put-more, put-same, put-written}
+use Rattle.maker_options.specs.Prepared.{Offsets, JobOf}
+use Rattle.maker_groups.specs.Parts.{Put, mark}
+use Rattle.maker_groups.proofs.Stores.{put-more, put-same, put-written}
 use Rattle.maker.specs.declared.Made.the-variants.{Written, Refused}
 use Rattle.maker.specs.Trailer.{offsetBytes, endingBytes, trailerBytes}
 use Rattle.maker.specs.Reported.{reported}

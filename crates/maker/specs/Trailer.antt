@@ -4,7 +4,7 @@ use mathlib.Core.List.{List, [], _∷_, _++_}
 use lib.ListN.{getD}
 use Rattle.paper.specs.Bytes.{u16, u32}
 use Rattle.paper.specs.Tests.{gather}
-use Rattle.groups.specs.Parts.{mark}
+use Rattle.maker_groups.specs.Parts.{mark}
 
 -- the bytes of offset m
 unfoldable pub offsetBytes : List ℕ → ℕ → List ℕ

@@ -3,14 +3,14 @@ ghost use Prim.Native.Nat.{_+_, _*_, _≤_, _<_};
 ghost use lib.ListN.{length};
 ghost use Rattle.paper.specs.Tests.{gather};
 ghost use Rattle.paper.specs.Promises.{Makes};
-ghost use Rattle.options.specs.Prepared.{JobOf};
-ghost use Rattle.groups.specs.Parts.{Put};
+ghost use Rattle.maker_options.specs.Prepared.{JobOf};
+ghost use Rattle.maker_groups.specs.Parts.{Put};
 ghost use Rattle.maker.specs.Trailer.{offsetBytes, endingBytes, trailerBytes};
 ghost use Rattle.maker.specs.Reported.{reported};
-use groups::bytes;
-use options::Job;
-use options::ready;
-use options::sizes;
+use maker_groups::bytes;
+use maker_options::Job;
+use maker_options::ready;
+use maker_options::sizes;
 
 // 0 with the list's length, or a refusal by its number.
 pub enum Made {
@@ -67,7 +67,7 @@ fn fill(s: &[u8], j: Job, root: usize, list: &mut [u8]) -> Made
     if list.len() < total {
         return Made::Refused(22);
     }
-    let p = groups::put_groups(s, &ws, list, j);
+    let p = maker_groups::put_groups(s, &ws, list, j);
     put_trailer(list, p, &offsets, j, root);
     Made::Written(total)
 }

@@ -12,10 +12,10 @@ use Rattle.paper.specs.Decide.{has, closure, nullRow, nullRule, nullable}
 use Rattle.paper.proofs.Tests.{same-test}
 use Rattle.paper.proofs.Closure.{closure-closed, closure-least}
 use Rattle.paper.proofs.Reaching.{null-mono}
-use Rattle.table.specs.Bits.{bitAt, setBit, wiped}
-use Rattle.table.specs.Room.{Grows}
-use Rattle.table.proofs.Bits.{set-bit-same, set-bit-other, wiped-bit}
-use Rattle.table.proofs.Room.{grows-not}
+use Rattle.workspace.specs.Bits.{bitAt, setBit, wiped}
+use Rattle.workspace.specs.Room.{Grows}
+use Rattle.workspace.proofs.Bits.{set-bit-same, set-bit-other, wiped-bit}
+use Rattle.workspace.proofs.Room.{grows-not}
 use Rattle.rows.specs.Sets.{Nulls, NullSound, NullSettled}
 use Rattle.rows.specs.Passes.{Turn}
 

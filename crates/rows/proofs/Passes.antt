@@ -7,8 +7,8 @@ use mathlib.Core.List.{List}
 use native.Mathlib.Nat.{not-suc-le-zero, le-of-lt}
 use native.Mathlib.Omega.{arith}
 use borrow.Author.Count.{below-more}
-use Rattle.table.specs.Room.{room, Grows}
-use Rattle.table.proofs.Room.{grows-not, grows-by}
+use Rattle.workspace.specs.Room.{room, Grows}
+use Rattle.workspace.proofs.Room.{grows-not, grows-by}
 use Rattle.rows.specs.Passes.{turnOf, Turn, Turns, Pass}
 
 -- each row has its turn

@@ -4,7 +4,7 @@ use Prim.Native.Nat.{ℕ, _-_, _<_}
 use mathlib.Core.Path.{_≡_}
 use mathlib.Core.Bool.{Bool, true, false}
 use mathlib.Core.List.{List}
-use Rattle.table.specs.Room.{Grows}
+use Rattle.workspace.specs.Room.{Grows}
 
 -- the row whose turn is turn j of n
 abbrev pub turnOf : Bool → ℕ → ℕ → ℕ

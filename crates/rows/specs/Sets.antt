@@ -9,7 +9,7 @@ use Rattle.paper.specs.Trailer.{offsetOf, countOf}
 use Rattle.paper.specs.Refusals.{refusal}
 use Rattle.paper.specs.Rows.{Row, Empty, Range, Text, Alt, Seq, Star, Grammar, rowOf, Keeps, Reach}
 use Rattle.paper.specs.Decide.{nullRule, nullable, reaches}
-use Rattle.table.specs.Bits.{bitAt, joined}
+use Rattle.workspace.specs.Bits.{bitAt, joined}
 
 -- entry 0 holds the rows that derive the empty word
 pub record Nulls (g : Grammar) (ws : List ℕ) : Type 0 where

@@ -7,8 +7,8 @@ ghost use lib.ListN.{length};
 ghost use Rattle.paper.specs.Rows.{rowOf};
 ghost use Rattle.paper.specs.Sheet.{grammarOf};
 ghost use Rattle.paper.specs.Decide.{nullRow};
-ghost use Rattle.table.specs.Bits.{bitAt};
-ghost use Rattle.table.specs.Room.{Grows};
+ghost use Rattle.workspace.specs.Bits.{bitAt};
+ghost use Rattle.workspace.specs.Room.{Grows};
 ghost use Rattle.rows.specs.Sets.{Nulls, Reached, Inside, RowsAt, Started, StepsOf, passedOn, NullSound, NullSettled, ReachSound, ReachSettled};
 ghost use Rattle.rows.specs.Passes.{turnOf, Turn, Pass};
 
@@ -29,8 +29,8 @@ fn null_row(nulls: &[u64], f: sheet::Fields) -> bool
     match kind {
         1 | 6 => true,
         3 => f.b == 0,
-        4 => table::test(nulls, 0, f.a) || table::test(nulls, 0, f.b),
-        5 => table::test(nulls, 0, f.a) && table::test(nulls, 0, f.b),
+        4 => workspace::test(nulls, 0, f.a) || workspace::test(nulls, 0, f.b),
+        5 => workspace::test(nulls, 0, f.a) && workspace::test(nulls, 0, f.b),
         _ => false,
     }
 }
@@ -42,7 +42,7 @@ fn null_turn(s: &[u8], at: usize, n: usize, out: &mut [u64], r: usize) -> bool
 {
     let f = sheet::row_at(s, at, r);
     if null_row(out, f) {
-        return table::mark(out, 0, r);
+        return workspace::mark(out, 0, r);
     }
     false
 }
@@ -69,7 +69,7 @@ pub fn nulls(s: &[u8], at: usize, n: usize, out: &mut [u64])
     requires { ⌜ RowsAt (now s) at n × (4 ≤ length (now out)) ⌝ }
     ensures { λ _. ⌜ Nulls (grammarOf (now (s .entry))) (now (out .exit)) ⌝ }
 {
-    table::wipe(out, 0);
+    workspace::wipe(out, 0);
     let mut down = false;
     loop {
         if !null_pass(s, at, n, out, down) {
@@ -96,8 +96,8 @@ fn steps_of(nulls: &[u64], n: usize, f: sheet::Fields) -> Steps
             second: true,
         },
         5 => Steps {
-            first: table::test(nulls, 0, f.b),
-            second: table::test(nulls, 0, f.a),
+            first: workspace::test(nulls, 0, f.b),
+            second: workspace::test(nulls, 0, f.a),
         },
         6 => Steps {
             first: true,
@@ -116,7 +116,7 @@ fn pass_on(out: &mut [u64], on: bool, p: usize, r: usize) -> bool
     ensures { λ new. ⌜ (now (out .exit) ≡ passedOn on p r (now (out .entry))) × Grows new (now (out .entry)) (now (out .exit)) ⌝ }
 {
     if on {
-        return table::merge(out, p, r);
+        return workspace::merge(out, p, r);
     }
     false
 }
@@ -160,8 +160,8 @@ fn start(n: usize, out: &mut [u64])
 {
     let mut q = 0;
     while q < n {
-        table::wipe(out, q);
-        table::set(out, q, q);
+        workspace::wipe(out, q);
+        workspace::set(out, q, q);
         q += 1;
     }
 }

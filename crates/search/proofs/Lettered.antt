@@ -14,7 +14,7 @@ use Rattle.paper.specs.Trailer.{countOf, recordAt}
 use Rattle.paper.specs.Sheet.{sheetOf, letter}
 use Rattle.paper.proofs.Tests.{any-none, any-suc, any-elim, and-right}
 use Rattle.sheet.proofs.Contents.{inSpan, letter-is}
-use Rattle.state.specs.Letters.{hasLetter, NoLetter, Joined}
+use Rattle.walk_state.specs.Letters.{hasLetter, NoLetter, Joined}
 
 -- the first i ranges have been joined
 abbrev pub RangesTo : List ℕ → ℕ → List ℕ → Type 0

@@ -6,7 +6,7 @@ use mathlib.Core.List.{List, [], _++_}
 use lib.ListN.{length, take, drop}
 use lib.Seq.{length-take-le}
 use Rattle.paper.specs.Answers.{Said, Found, None, Spent, reportOf, outAfter, written}
-use Rattle.state.specs.declared.Prefix.{Prefix}
+use Rattle.walk_state.specs.declared.Prefix.{Prefix}
 use Rattle.search.specs.declared.Sought.{Sought}
 use Rattle.search.specs.Tells.{Tells}
 

@@ -3,15 +3,15 @@ ghost use mathlib.Core.Path.{_≡_};
 ghost use Prim.Native.Nat.{ℕ};
 ghost use Rattle.paper.specs.Refusals.{refusal};
 ghost use Rattle.paper.specs.Sheet.{sheetOf, letter};
-ghost use Rattle.state.specs.Letters.{hasLetter};
+ghost use Rattle.walk_state.specs.Letters.{hasLetter};
 
-pub fn letters_of(s: &[u8]) -> state::Letters
+pub fn letters_of(s: &[u8]) -> walk_state::Letters
     requires { ⌜ refusal (now s) ≡ 0 ⌝ }
     ensures { λ r. ⌜ ((b : ℕ) → hasLetter (r .of) b ≡ letter (sheetOf (now (s .entry))) b) ⌝ }
 {
-    let at = trailer::field(s, 2);
-    let n = trailer::field(s, 3);
-    let mut l = state::Letters::none();
+    let at = sheet_trailer::field(s, 2);
+    let n = sheet_trailer::field(s, 3);
+    let mut l = walk_state::Letters::none();
     let mut i = 0;
     while i < n {
         let o = at + 2 * i;

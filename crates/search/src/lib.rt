@@ -10,7 +10,7 @@ ghost use Rattle.paper.specs.Sheet.{sheetOf};
 ghost use Rattle.paper.specs.Opens.{opens};
 ghost use Rattle.paper.specs.Walk.{walk as «walk-of»};
 ghost use Rattle.paper.specs.Answers.{under};
-ghost use Rattle.state.specs.Letters.{hasLetter};
+ghost use Rattle.walk_state.specs.Letters.{hasLetter};
 ghost use Rattle.walk.specs.Counts.{Small};
 ghost use Rattle.walk.specs.Progress.{Classes};
 ghost use Rattle.groundwork.specs.Ground.{Ground};
@@ -20,7 +20,7 @@ ghost use Rattle.search.specs.Tells.{Tells};
 // How a search ended: the number 0, 1 or 2, the word, the trials.
 pub struct Sought {
     pub number: u8,
-    pub prefix: state::Prefix,
+    pub prefix: walk_state::Prefix,
     pub trials: u64,
 }
 
@@ -28,7 +28,7 @@ pub struct Sought {
 fn wordless(number: u8, trials: u64) -> Sought
     ensures { λ r. ⌜ (r .number ≡ number) × (r .prefix .len ≡ 0) × (r .trials ≡ trials) ⌝ }
 {
-    let prefix = state::Prefix::empty();
+    let prefix = walk_state::Prefix::empty();
     Sought {
         number,
         prefix,
@@ -46,7 +46,7 @@ fn judged(s: &[u8], bytes: &[u8], len: usize, n: usize, lay: &[u64], work: &mut 
 
 pub fn seek(
     s: &[u8],
-    letters: state::Letters,
+    letters: walk_state::Letters,
     slot: &[u8; 256],
     lo: usize,
     hi: usize,
@@ -59,7 +59,7 @@ pub fn seek(
 {
     let mut counts = [0u64; 480];
     let mut n = lo;
-    let mut q = state::State::start();
+    let mut q = walk_state::State::start();
     while q.trials < budget {
         let p = q.prefix;
         let bytes = p.bytes;

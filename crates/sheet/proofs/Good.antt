@@ -14,10 +14,10 @@ use Rattle.paper.specs.Trailer.{size, least, most, limit, shortest, longest, of
 use Rattle.paper.specs.Records.{letterOk, rowOk, partOk, recordOk, badTable, termFits, assertFits, badTerm}
 use Rattle.paper.specs.Refusals.{unless, contentRefusal, tableRefusal, refusal}
 use Rattle.paper.proofs.Tests.{and-left, and-right}
-use Rattle.trailer.specs.Placed.{Placed}
-use Rattle.trailer.proofs.Search.{all-good}
-use Rattle.trailer.proofs.Tables as tables
-use Rattle.records.proofs.Kept.{kept, assertion-ok, run-ok, fields-ok}
+use Rattle.sheet_trailer.specs.Placed.{Placed}
+use Rattle.sheet_trailer.proofs.Search.{all-good}
+use Rattle.sheet_trailer.proofs.Tables as tables
+use Rattle.sheet_records.proofs.Kept.{kept, assertion-ok, run-ok, fields-ok}
 use Rattle.sheet.specs.Facts.{RowFacts, PartFacts, AssertionFacts, TermFacts}
 use Rattle.sheet.proofs.Rules.{row-facts, part-facts, assertion-kinds, derived-ok, contains-ok, equals-ok}
 

@@ -9,7 +9,7 @@ use borrow.Author.Tests.{eqb-true, leb-true, ltb-true, leb-false}
 use native.Mathlib.Omega.{arith}
 use Rattle.paper.specs.Records.{rowFields, partFields, assertFields}
 use Rattle.paper.proofs.Tests.{and-left, and-right, true-or-false}
-use Rattle.records.proofs.RowKinds.{row-none, gt-eqb}
+use Rattle.sheet_records.proofs.RowKinds.{row-none, gt-eqb}
 use Rattle.sheet.specs.Facts.{RowFacts, PartFacts}
 
 -- a test that is true where a number is outside n to m, and cannot be, keeps it inside

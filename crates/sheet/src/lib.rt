@@ -9,7 +9,7 @@ ghost use Rattle.paper.specs.Trailer.{offsetOf, countOf};
 ghost use Rattle.paper.specs.Refusals.{contentRefusal, tableRefusal, refusal};
 ghost use Rattle.paper.specs.Sheet.{letter, textOf, sheetOf};
 ghost use Rattle.paper.specs.Promises.{Checks};
-ghost use Rattle.trailer.specs.Placed.{Placed};
+ghost use Rattle.sheet_trailer.specs.Placed.{Placed};
 ghost use Rattle.sheet.specs.Verdict.{numberOf};
 ghost use Rattle.sheet.specs.Readers.{trailerOf, FieldsAt, AssertionFields, RowRead, PartRead, AssertionRead};
 
@@ -48,10 +48,10 @@ fn check_content(s: &[u8]) -> Verdict
     requires { ⌜ (32 ≤ length (now s)) × Placed (now s) ⌝ }
     ensures { λ r. ⌜ numberOf r ≡ contentRefusal (now (s .entry)) ⌝ }
 {
-    if records::bad_table(s) != 5 {
+    if sheet_records::bad_table(s) != 5 {
         return Verdict::Record;
     }
-    if records::terms::bad_term(s) != trailer::field(s, 11) {
+    if sheet_records::terms::bad_term(s) != sheet_trailer::field(s, 11) {
         return Verdict::Term;
     }
     Verdict::Accepted
@@ -62,13 +62,13 @@ fn check_tables(s: &[u8]) -> Verdict
     requires { ⌜ 32 ≤ length (now s) ⌝ }
     ensures { λ r. ⌜ numberOf r ≡ tableRefusal (now (s .entry)) ⌝ }
 {
-    if trailer::bad_count(s) != 5 {
+    if sheet_trailer::bad_count(s) != 5 {
         return Verdict::Counts;
     }
-    if !trailer::lengths_ok(s) {
+    if !sheet_trailer::lengths_ok(s) {
         return Verdict::Counts;
     }
-    if !trailer::offsets_ok(s) {
+    if !sheet_trailer::offsets_ok(s) {
         return Verdict::Offsets;
     }
     check_content(s)
@@ -84,10 +84,10 @@ pub fn check(s: &[u8]) -> Verdict
     if s.len() > 3376 {
         return Verdict::Long;
     }
-    if !trailer::mark_ok(s) {
+    if !sheet_trailer::mark_ok(s) {
         return Verdict::Mark;
     }
-    if !trailer::total_ok(s) {
+    if !sheet_trailer::total_ok(s) {
         return Verdict::Total;
     }
     check_tables(s)
@@ -132,18 +132,18 @@ fn trailer_at_end(s: &[u8]) -> Trailer
     ensures { λ r. ⌜ r ≡ trailerOf (now (s .entry)) ⌝ }
 {
     Trailer {
-        shortest: trailer::field(s, 0),
-        longest: trailer::field(s, 1),
-        letters: trailer::field(s, 3),
-        letters_at: trailer::field(s, 2),
-        text: trailer::field(s, 5),
-        text_at: trailer::field(s, 4),
-        rows: trailer::field(s, 7),
-        rows_at: trailer::field(s, 6),
-        parts: trailer::field(s, 9),
-        parts_at: trailer::field(s, 8),
-        assertions: trailer::field(s, 11),
-        assertions_at: trailer::field(s, 10),
+        shortest: sheet_trailer::field(s, 0),
+        longest: sheet_trailer::field(s, 1),
+        letters: sheet_trailer::field(s, 3),
+        letters_at: sheet_trailer::field(s, 2),
+        text: sheet_trailer::field(s, 5),
+        text_at: sheet_trailer::field(s, 4),
+        rows: sheet_trailer::field(s, 7),
+        rows_at: sheet_trailer::field(s, 6),
+        parts: sheet_trailer::field(s, 9),
+        parts_at: sheet_trailer::field(s, 8),
+        assertions: sheet_trailer::field(s, 11),
+        assertions_at: sheet_trailer::field(s, 10),
     }
 }
 
@@ -215,8 +215,8 @@ pub fn text_of(s: &[u8]) -> &[u8]
     requires { ⌜ refusal (now s) ≡ 0 ⌝ }
     ensures { λ r. ⌜ now r ≡ textOf (now (s .entry)) ⌝ }
 {
-    let at = trailer::field(s, 4);
-    let end = at + trailer::field(s, 5);
+    let at = sheet_trailer::field(s, 4);
+    let end = at + sheet_trailer::field(s, 5);
     &s[at..end]
 }
 
@@ -232,8 +232,8 @@ pub fn is_letter(s: &[u8], b: u8) -> bool
     requires { ⌜ refusal (now s) ≡ 0 ⌝ }
     ensures { λ r. ⌜ r ≡ letter (sheetOf (now (s .entry))) b ⌝ }
 {
-    let at = trailer::field(s, 2);
-    let n = trailer::field(s, 3);
+    let at = sheet_trailer::field(s, 2);
+    let n = sheet_trailer::field(s, 3);
     let mut i: usize = 0;
     while i < n {
         if in_range(s, at + 2 * i, b) {

@@ -15,7 +15,7 @@ use Rattle.paper.specs.Answers.{Said, Found, None, Spent, Refused, Report, repo
 use Rattle.paper.specs.Promises.{says, Solves}
 use Rattle.paper.proofs.Meaning.{Means, answer-means}
 use Rattle.chart.specs.Cells.{Within}
-use Rattle.state.specs.Letters.{hasLetter}
+use Rattle.walk_state.specs.Letters.{hasLetter}
 use Rattle.search.specs.Tells.{Tells}
 use Rattle.search.specs.declared.Sought.{Sought}
 use Rattle.solver.specs.Reported.{refused}

@@ -30,7 +30,7 @@ pub enum Solved {
 }
 
 // The word at the start of the output.
-fn put_word(p: state::Prefix, out: &mut [u8])
+fn put_word(p: walk_state::Prefix, out: &mut [u8])
     requires { ⌜ (p .len ≤ 60) × (p .len ≤ length (now out)) ⌝ }
     ensures { λ _. ⌜ now (out .exit) ≡ written (take (p .len) (p .bytes)) (now (out .entry)) ⌝ }
 {
@@ -63,8 +63,8 @@ fn searched(s: &[u8], budget: u64, work: &mut [u64]) -> search::Sought
     groundwork::lay(s, &mut lay);
     let l = search::letters::letters_of(s);
     let slots = alike::slots_of(s);
-    let lo = trailer::field(s, 0);
-    let hi = trailer::field(s, 1);
+    let lo = sheet_trailer::field(s, 0);
+    let hi = sheet_trailer::field(s, 1);
     search::seek(s, l, &slots.of, lo, hi, budget, &lay, work)
 }
 
@@ -76,7 +76,7 @@ fn answer(s: &[u8], budget: u64, work: &mut [u64], out: &mut [u8]) -> Solved
     ensures wrote { λ r. ⌜ now (out .exit) ≡ outAfter (under budget (walkOf (sheetOf (now (s .entry))))) (now (out .entry)) ⌝ }
 {
     let r = searched(s, budget, work);
-    table::clear(work);
+    workspace::clear(work);
     put_word(r.prefix, out);
     tell(r)
 }
@@ -89,7 +89,7 @@ fn lent(s: &[u8], budget: u64, work: &mut [u64], out: &mut [u8]) -> Solved
     if work.len() < paper::WORDS {
         return Solved::Workspace;
     }
-    if out.len() < trailer::field(s, 1) {
+    if out.len() < sheet_trailer::field(s, 1) {
         return Solved::Output;
     }
     answer(s, budget, work, out)

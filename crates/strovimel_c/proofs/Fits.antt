@@ -16,7 +16,7 @@ use Rattle.paper.specs.Answers.{Said, Found, None, Spent, Refused, reportOf, wh
 use Rattle.paper.specs.Promises.{says}
 use Rattle.paper.proofs.Meaning.{Means, answer-means}
 use Rattle.paper.proofs.Obeys.{list-most}
-use Rattle.table.proofs.Spans.{lt-or-le}
+use Rattle.workspace.proofs.Spans.{lt-or-le}
 use Rattle.sheet.proofs.Good.{good}
 use Rattle.sheet.proofs.Soundness.{accepted-sound}
 use Rattle.solver.proofs.Solving.{says-sheet}

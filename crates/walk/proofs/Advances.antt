@@ -7,9 +7,9 @@ use mathlib.Core.Bool.{Bool, true, false, true≢false}
 use mathlib.Core.List.{List}
 use lib.ListN.{length, take, length-set}
 use lib.Seq.{getD-set-other}
-use Rattle.state.specs.declared.State.{State}
-use Rattle.state.specs.Letters.{First}
-use Rattle.state.specs.Moves.{downOf, countedOf}
+use Rattle.walk_state.specs.declared.State.{State}
+use Rattle.walk_state.specs.Letters.{First}
+use Rattle.walk_state.specs.Moves.{downOf, countedOf}
 use Rattle.walk.specs.Counts.{Small, wiped}
 use Rattle.walk.specs.Progress.{Judging, Finished}
 use Rattle.walk.specs.Posts.{Climbed, Advanced}

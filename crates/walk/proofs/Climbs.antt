@@ -8,9 +8,9 @@ use mathlib.Core.Bool.{Bool, false, true≢false}
 use mathlib.Core.List.{List}
 use lib.ListN.{length, getD, set, length-set}
 use lib.Seq.{getD-set-same, getD-set-other}
-use Rattle.state.specs.declared.State.{State}
-use Rattle.state.specs.Letters.{First}
-use Rattle.state.specs.Moves.{nextOf, backOf, countedOf, passedOf, lastOf, sinceOf, Marks}
+use Rattle.walk_state.specs.declared.State.{State}
+use Rattle.walk_state.specs.Letters.{First}
+use Rattle.walk_state.specs.Moves.{nextOf, backOf, countedOf, passedOf, lastOf, sinceOf, Marks}
 use Rattle.walk.specs.Counts.{Small, notedAt, seenAt}
 use Rattle.walk.specs.Progress.{Classes, Done, Knows, Finished, Landing}
 use Rattle.walk.specs.Posts.{Climbed}

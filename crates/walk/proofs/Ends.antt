@@ -10,7 +10,7 @@ use lib.ListN.{take, getD}
 use Rattle.paper.specs.Walk.{Walked, found, none, plus, then, count, rising, every, tree, walk}
 use Rattle.paper.specs.Answers.{Found, None, Spent, whole, under}
 use Rattle.paper.proofs.Budget.{count-tree, under-above, under-within}
-use Rattle.state.specs.declared.State.{State}
+use Rattle.walk_state.specs.declared.State.{State}
 use Rattle.paper.proofs.Budget.{count-plus, count-then}
 use Rattle.walk.specs.Progress.{At, Done, Knows, Judging, Landed, Over}
 use Rattle.walk.proofs.Runs.{plus-zero, plus-plus, rising-end, rising-take, tree-word}

@@ -8,8 +8,8 @@ use lib.ListN.{length, take, getD, set, length-set}
 use lib.Seq.{getD-set-same}
 use Rattle.paper.specs.Walk.{walk}
 use Rattle.paper.specs.Answers.{Found, None, Spent, under}
-use Rattle.state.specs.declared.State.{State}
-use Rattle.state.specs.Moves.{startState, againOf, Marks}
+use Rattle.walk_state.specs.declared.State.{State}
+use Rattle.walk_state.specs.Moves.{startState, againOf, Marks}
 use Rattle.walk.specs.Progress.{Classes, Judging, Landed, Landing, At, Knows}
 use Rattle.walk.specs.Posts.{Advanced}
 use Rattle.walk.proofs.Steps.{marks-below}

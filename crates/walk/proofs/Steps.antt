@@ -9,7 +9,7 @@ use mathlib.Core.List.{List, [], _∷_, _++_}
 use lib.ListN.{length, take, getD, set}
 use lib.Seq.{take-suc-set, take-set-le, getD-set-other, getD-set-same}
 use Rattle.paper.specs.Walk.{Walked, found, none, plus, then, count, tree}
-use Rattle.state.specs.Letters.{First}
+use Rattle.walk_state.specs.Letters.{First}
 use Rattle.paper.proofs.Budget.{count-plus, count-then}
 use Rattle.walk.specs.Progress.{kids, Part, Parts, At, Done}
 use Rattle.walk.proofs.Runs.{plus-plus, rising-end, rising-take, rising-from, tree-shut, tree-open}

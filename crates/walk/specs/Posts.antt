@@ -4,7 +4,7 @@ use Prim.Native.Nat.{ℕ, _≤_, _<_}
 use mathlib.Core.Bool.{Bool, true, false}
 use mathlib.Core.List.{List}
 use lib.ListN.{length, getD, take}
-use Rattle.state.specs.declared.State.{State}
+use Rattle.walk_state.specs.declared.State.{State}
 use Rattle.walk.specs.Progress.{Classes, Judging, Finished, Landed, Over}
 
 -- from q, whose prefix is done, to r; m and m′ are the counts before and after

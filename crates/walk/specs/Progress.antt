@@ -5,7 +5,7 @@ use mathlib.Core.Bool.{Bool}
 use mathlib.Core.List.{List, [], _∷_, _++_}
 use lib.ListN.{take, getD}
 use Rattle.paper.specs.Walk.{Walked, none, plus, then, count, rising, tree}
-use Rattle.state.specs.declared.State.{State}
+use Rattle.walk_state.specs.declared.State.{State}
 
 -- bytes that no judgement tells apart: wherever the one stands in a prefix, the other is as good
 abbrev pub Alike : (ℕ → List ℕ → Bool) → ℕ → ℕ → Type 0

@@ -4,8 +4,8 @@ ghost use mathlib.Core.Path.{_≡_};
 ghost use mathlib.Core.Bool.{true, false};
 ghost use Prim.Native.Nat.{ℕ, _+_, _*_, _-_, _<_, _≤_};
 ghost use lib.ListN.{length, getD};
-ghost use Rattle.state.specs.Letters.{hasLetter};
-ghost use Rattle.state.specs.Moves.{lastOf, sinceOf, Marks};
+ghost use Rattle.walk_state.specs.Letters.{hasLetter};
+ghost use Rattle.walk_state.specs.Moves.{lastOf, sinceOf, Marks};
 ghost use Rattle.walk.specs.Counts.{Small, notedAt, seenAt, wiped};
 ghost use Rattle.walk.specs.Posts.{Climbed, Advanced, IsWord};
 
@@ -33,7 +33,7 @@ pub fn seen(counts: &[u64], len: usize, s: usize) -> u64
 }
 
 // The trials of the last letter noted for its slot, what is known of the letter b in its place.
-pub fn recall(slot: &[u8; 256], q: state::State, b: usize, counts: &mut [u64]) -> u64
+pub fn recall(slot: &[u8; 256], q: walk_state::State, b: usize, counts: &mut [u64]) -> u64
     requires { ⌜ (0 < q .prefix .len) × (q .prefix .len ≤ 60) × (b < 256) × Marks q × Small (now slot) × (480 ≤ length (now counts)) ⌝ }
     ensures noted { λ r. ⌜ now (counts .exit) ≡ notedAt (now (counts .entry)) (q .prefix .len) (getD (now (slot .entry)) (lastOf (q .prefix)) 0) (sinceOf q) ⌝ }
     ensures seen { λ r. ⌜ r ≡ seenAt (now (counts .exit)) (q .prefix .len) (getD (now (slot .entry)) b 0) ⌝ }
@@ -59,12 +59,12 @@ pub fn fresh(counts: &mut [u64], len: usize)
 // Behind a prefix and its extensions: the next letter in its last place whose trials are not known, or in that of the nearest shorter one
 // that has such; those that are known are counted on the way.
 pub fn climb(
-    letters: state::Letters,
+    letters: walk_state::Letters,
     slot: &[u8; 256],
     budget: u64,
-    p: state::State,
+    p: walk_state::State,
     counts: &mut [u64],
-) -> state::State
+) -> walk_state::State
     requires { ⌜ (p .prefix .len ≤ 60) × (p .trials ≤ budget) × (p .over ≡ false) × Marks p × Small (now slot) × (480 ≤ length (now counts)) ⌝ }
     ensures { λ r. ⌜ Climbed (hasLetter (letters .of)) (now (slot .entry)) budget p (now (counts .entry)) r (now (counts .exit)) ⌝ }
 {
@@ -90,14 +90,14 @@ pub fn climb(
 
 // The state after a prefix was judged.
 pub fn advance(
-    letters: state::Letters,
+    letters: walk_state::Letters,
     slot: &[u8; 256],
     budget: u64,
     n: usize,
     ok: bool,
-    q: state::State,
+    q: walk_state::State,
     counts: &mut [u64],
-) -> state::State
+) -> walk_state::State
     requires { ⌜ (n ≤ 60) × (q .prefix .len ≤ n) × (ok ≡ true → q .prefix .len < n) × (q .trials < budget) × (q .over ≡ false) × Marks q × Small (now slot) × (480 ≤ length (now counts)) ⌝ }
     ensures { λ r. ⌜ Advanced (hasLetter (letters .of)) (now (slot .entry)) budget n ok q (now (counts .entry)) r (now (counts .exit)) ⌝ }
 {

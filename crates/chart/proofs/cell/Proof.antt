@@ -3,7 +3,7 @@ use mathlib.Core.Path.{_≡_, refl, sym, ap, _∙_}
 use native.Mathlib.Omega.{arith}
 use lib.ListN.{length}
 use borrow.Author.Needs.{needs}
-use Rattle.table.proofs.Bits.{length-wiped}
+use Rattle.workspace.proofs.Bits.{length-wiped}
 use Rattle.sheet.proofs.Good.{good}
 use Rattle.chart.proofs.Rows.{rows-few}
 use Rattle.chart.proofs.Charting.{pairs-of, chained, cell-of}

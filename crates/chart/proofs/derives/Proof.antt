@@ -1,6 +1,6 @@
 use mathlib.Core.Path.{_∙_, ap}
 use borrow.Author.Needs.{needs}
-use Rattle.table.specs.Bits.{bitAt}
+use Rattle.workspace.specs.Bits.{bitAt}
 use Rattle.chart.proofs.derives.Statement.{statement}
 use Rattle.chart.proofs.derives.Tie as tie
 

@@ -10,8 +10,8 @@ use Rattle.chart.proofs.empties.Statement.{statement}
 use Rattle.chart.proofs.empties.Tie as tie
 use Rattle.chart.proofs.empties.Reads as reads
 use Rattle.chart.proofs.empties.Lts as lts
-use Rattle.table.proofs.copy.Reads as copy-reads
-use Rattle.table.proofs.span.Reads as span-reads
+use Rattle.workspace.proofs.copy.Reads as copy-reads
+use Rattle.workspace.proofs.span.Reads as span-reads
 
 abbrev Inv-loop : tie.InvT-loop
 Inv-loop lay work₀ n i₀ work i = (i ≤ n + 1) × Filled (emptied lay) n 0 i work × Within work₀ work

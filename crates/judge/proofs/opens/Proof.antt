@@ -11,7 +11,7 @@ use Rattle.judge.proofs.opens.Lts as lts
 use Rattle.judge.proofs.possible.Reads as possible-reads
 use Rattle.sheet.proofs.assertion_at.Reads as assertion-at-reads
 use Rattle.terms.proofs.all_of_v.Reads as all-of-v-reads
-use Rattle.trailer.proofs.field.Reads as field-reads
+use Rattle.sheet_trailer.proofs.field.Reads as field-reads
 
 abbrev Inv-loop : tie.InvT-loop
 Inv-loop s prefix n lay work₀ v at from count held₀ i₀ work held i = Upto s n prefix v i held work₀ work × (i ≤ count)

@@ -4,7 +4,7 @@ use native.Mathlib.Omega.{arith}
 use lib.ListN.{length}
 use Rattle.paper.specs.Sheet.{grammarOf}
 use Rattle.paper.specs.Cuts.{cutList}
-use Rattle.options.proofs.Turns.{job-rows, groups-bound}
+use Rattle.maker_options.proofs.Turns.{job-rows, groups-bound}
 use Rattle.maker.proofs.Answers.{list-length, refused-space, not-refused, answer-refused, answer-written, written-list}
 use Rattle.maker.proofs.fill.Statement.{statement}
 use Rattle.maker.proofs.fill.Tie as tie

@@ -1,8 +1,8 @@
 use borrow.Author.Needs.{needs}
 use native.Mathlib.Omega.{arith}
 use Rattle.paper.specs.Bytes.{u16, u32}
-use Rattle.groups.specs.Parts.{mark}
-use Rattle.groups.proofs.Stores.{put-more}
+use Rattle.maker_groups.specs.Parts.{mark}
+use Rattle.maker_groups.proofs.Stores.{put-more}
 use Rattle.maker.specs.Trailer.{endingBytes}
 use Rattle.maker.proofs.put_ending.Statement.{statement}
 use Rattle.maker.proofs.put_ending.Tie as tie

@@ -5,9 +5,9 @@ use mathlib.Core.Path.{_≡_, ap}
 use native.Mathlib.Omega.{arith}
 use lib.ListN.{length}
 use Rattle.paper.specs.Tests.{gather}
-use Rattle.groups.specs.Parts.{Put}
-use Rattle.groups.proofs.Stores.{put-same}
-use Rattle.groups.proofs.Writing.{gather-none, gather-turn}
+use Rattle.maker_groups.specs.Parts.{Put}
+use Rattle.maker_groups.proofs.Stores.{put-same}
+use Rattle.maker_groups.proofs.Writing.{gather-none, gather-turn}
 use Rattle.maker.specs.Trailer.{offsetBytes}
 use Rattle.maker.proofs.Answers.{offsets-size}
 use Rattle.maker.proofs.put_offsets.Statement.{statement}

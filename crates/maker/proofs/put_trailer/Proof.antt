@@ -1,7 +1,7 @@
 use borrow.Author.Needs.{needs}
 use Prim.Native.Nat.{_+_}
 use native.Mathlib.Omega.{arith}
-use Rattle.groups.proofs.Stores.{put-more}
+use Rattle.maker_groups.proofs.Stores.{put-more}
 use Rattle.maker.specs.Trailer.{trailerBytes}
 use Rattle.maker.proofs.Answers.{offsets-size}
 use Rattle.maker.proofs.put_trailer.Statement.{statement}

@@ -1,6 +1,6 @@
 use borrow.Author.Needs.{needs}
 use mathlib.Core.Path.{_∙_}
-use Rattle.table.proofs.Room.{grows-not}
+use Rattle.workspace.proofs.Room.{grows-not}
 use Rattle.rows.proofs.ReachLaws.{passed-yes, passed-no}
 use Rattle.rows.proofs.pass_on.Statement.{statement}
 use Rattle.rows.proofs.pass_on.Tie as tie

@@ -4,7 +4,7 @@ use native.Mathlib.Nat.{not-suc-le-zero}
 use native.Mathlib.Omega.{arith}
 use lib.ListN.{length}
 use borrow.Author.Needs.{needs}
-use Rattle.table.specs.Bits.{setBit}
+use Rattle.workspace.specs.Bits.{setBit}
 use Rattle.rows.specs.Sets.{Started}
 use Rattle.rows.proofs.ReachLaws.{started-more}
 use Rattle.rows.proofs.start.Statement.{statement}

@@ -8,7 +8,7 @@ use Rattle.paper.specs.Opens.{opens}
 use Rattle.sheet.proofs.Good.{good}
 use Rattle.chart.specs.Cells.{Within}
 use Rattle.chart.proofs.Filling.{within-none, within-then}
-use Rattle.state.specs.Letters.{hasLetter}
+use Rattle.walk_state.specs.Letters.{hasLetter}
 use Rattle.walk.proofs.Seek.{Seeking, seek-start, seek-marks, seek-found, seek-spent, seek-over, seek-none, seek-next, seek-length}
 use Rattle.search.proofs.Tellings.{tells-found, tells-none, tells-spent}
 use Rattle.search.proofs.seek.Statement.{statement}
@@ -17,8 +17,8 @@ use Rattle.search.proofs.seek.Reads as reads
 use Rattle.search.proofs.seek.Lts as lts
 use Rattle.search.proofs.judged.Reads as judged-reads
 use Rattle.search.proofs.wordless.Reads as wordless-reads
-use Rattle.state.proofs.State.again.Reads as again-reads
-use Rattle.state.proofs.State.start.Reads as start-reads
+use Rattle.walk_state.proofs.State.again.Reads as again-reads
+use Rattle.walk_state.proofs.State.start.Reads as start-reads
 use Rattle.walk.proofs.advance.Reads as advance-reads
 use Rattle.walk.proofs.is_word.Reads as is-word-reads
 

@@ -3,7 +3,7 @@ use native.Mathlib.Omega.{arith}
 use borrow.Author.Needs.{needs}
 use borrow.Author.Tests.{ne-eqb, not-true, not-false}
 use Rattle.paper.specs.Refusals.{tableRefusal}
-use Rattle.trailer.proofs.Tables.{placed}
+use Rattle.sheet_trailer.proofs.Tables.{placed}
 use Rattle.sheet.proofs.check_tables.Statement.{statement}
 use Rattle.sheet.proofs.check_tables.Tie as tie
 

@@ -10,7 +10,7 @@ use Rattle.solver.proofs.answer.Lts as lts
 use Rattle.solver.proofs.put_word.Reads as put-word-reads
 use Rattle.solver.proofs.searched.Reads as searched-reads
 use Rattle.solver.proofs.tell.Reads as tell-reads
-use Rattle.table.proofs.clear.Reads as clear-reads
+use Rattle.workspace.proofs.clear.Reads as clear-reads
 
 -- src/lib.rt:78:9
 searched-requires : tie.Need-searched-requires

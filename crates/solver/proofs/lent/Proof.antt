@@ -7,7 +7,7 @@ use Rattle.solver.proofs.lent.Tie as tie
 use Rattle.solver.proofs.lent.Reads as reads
 use Rattle.solver.proofs.lent.Lts as lts
 use Rattle.solver.proofs.answer.Reads as answer-reads
-use Rattle.trailer.proofs.field.Reads as field-reads
+use Rattle.sheet_trailer.proofs.field.Reads as field-reads
 
 returns : tie.Need-returns
 returns c = refusing (c .before .before .before .before .args .s .now) (c .before .before .before .before .args .budget) (c .before .before .before .before .args .work .now) (c .before .before .before .before .args .out .now) 18 (says-18 (c .before .before .before .before .args .s .now) (c .before .before .before .before .args .budget) (c .before .before .before .before .args .work .now) (c .before .before .before .before .args .out .now) (c .before .before .before .before .pre) (c .if1 .taken))

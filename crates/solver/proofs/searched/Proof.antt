@@ -10,7 +10,7 @@ use Rattle.alike.proofs.slots_of.Reads as slots-of-reads
 use Rattle.groundwork.proofs.lay.Reads as lay-reads
 use Rattle.search.proofs.letters.letters_of.Reads as letters-of-reads
 use Rattle.search.proofs.seek.Reads as seek-reads
-use Rattle.trailer.proofs.field.Reads as field-reads
+use Rattle.sheet_trailer.proofs.field.Reads as field-reads
 
 -- src/lib.rt:63:24
 slice-aggregate-lay : tie.Need-slice-aggregate-lay

@@ -2,8 +2,8 @@
 use Prim.Native.Nat.{_<_, _+_}
 use native.Mathlib.Omega.{arith}
 use borrow.Author.Needs.{needs}
-use Rattle.state.specs.Letters.{hasLetter, First}
-use Rattle.state.specs.Moves.{lastOf}
+use Rattle.walk_state.specs.Letters.{hasLetter, First}
+use Rattle.walk_state.specs.Moves.{lastOf}
 use Rattle.walk.proofs.Climbs.{Climbing, climb-start, climb-note, climb-skip, climb-over, climb-next, climb-back, climb-end, toGo, skip-less, back-less}
 use Rattle.walk.proofs.climb.Statement.{statement}
 use Rattle.walk.proofs.climb.Tie as tie

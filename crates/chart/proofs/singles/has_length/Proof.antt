@@ -1,6 +1,6 @@
 use borrow.Author.Needs.{needs}
 use lib.Bits.{and-mask}
-use Rattle.table.specs.Bits.{bit}
+use Rattle.workspace.specs.Bits.{bit}
 use Rattle.chart.proofs.singles.has_length.Statement.{statement}
 use Rattle.chart.proofs.singles.has_length.Tie as tie
 

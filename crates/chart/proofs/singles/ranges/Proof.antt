@@ -6,9 +6,9 @@ use borrow.Author.Needs.{needs}
 use Rattle.paper.specs.Rows.{row}
 use Rattle.paper.specs.Sheet.{grammarOf}
 use Rattle.sheet.proofs.Good.{good}
-use Rattle.cells.specs.Steps.{Adds, only}
+use Rattle.chart_cells.specs.Steps.{Adds, only}
 use Rattle.chart.specs.Cells.{holds, among}
-use Rattle.cells.proofs.Adding.{adds-none}
+use Rattle.chart_cells.proofs.Adding.{adds-none}
 use Rattle.chart.proofs.Owning.{among-none, among-turn}
 use Rattle.chart.proofs.Rows.{rows-few}
 use Rattle.chart.proofs.singles.ranges.Statement.{statement}
@@ -16,8 +16,8 @@ use Rattle.chart.proofs.singles.ranges.Tie as tie
 use Rattle.chart.proofs.singles.ranges.Reads as reads
 use Rattle.chart.proofs.singles.ranges.Lts as lts
 use Rattle.chart.proofs.singles.holds.Reads as holds-reads
-use Rattle.cells.proofs.put.Reads as put-reads
-use Rattle.trailer.proofs.field.Reads as field-reads
+use Rattle.chart_cells.proofs.put.Reads as put-reads
+use Rattle.sheet_trailer.proofs.field.Reads as field-reads
 
 abbrev Inv-loop : tie.InvT-loop
 Inv-loop s x work₀ sp at n q₀ work q = (q ≤ n) × Adds sp (among (grammarOf s) (holds x) q) work₀ work

@@ -5,10 +5,10 @@ use borrow.Author.Needs.{needs}
 use Rattle.paper.specs.Sheet.{sheetOf, grammarOf}
 use Rattle.paper.specs.Trailer.{countOf}
 use Rattle.paper.specs.Opens.{pattern}
-use Rattle.table.specs.Bits.{bitAt}
+use Rattle.workspace.specs.Bits.{bitAt}
 use Rattle.groundwork.specs.Places.{placesIn}
 use Rattle.chart.specs.Cells.{holds, ranged, among, passing}
-use Rattle.cells.proofs.Adding.{adds-none, adds-same, adds-joined}
+use Rattle.chart_cells.proofs.Adding.{adds-none, adds-same, adds-joined}
 use Rattle.chart.proofs.Owning.{long-range}
 use Rattle.chart.proofs.Rows.{known-single, unknown-single}
 use Rattle.chart.proofs.singles.singles.Statement.{statement}

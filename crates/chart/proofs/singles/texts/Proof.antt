@@ -10,9 +10,9 @@ use Rattle.paper.specs.Sheet.{sheetOf, grammarOf, textOf}
 use Rattle.paper.specs.Opens.{pattern}
 use Rattle.sheet.proofs.Good.{good}
 use Rattle.groundwork.specs.Places.{placesIn}
-use Rattle.cells.specs.Steps.{Adds, only}
+use Rattle.chart_cells.specs.Steps.{Adds, only}
 use Rattle.chart.specs.Cells.{fitting, among, passing}
-use Rattle.cells.proofs.Adding.{adds-none, adds-same}
+use Rattle.chart_cells.proofs.Adding.{adds-none, adds-same}
 use Rattle.chart.proofs.Owning.{among-none, among-turn}
 use Rattle.chart.proofs.Rows.{rows-few, texts-passed, texts-none}
 use Rattle.chart.proofs.singles.texts.Statement.{statement}
@@ -21,9 +21,9 @@ use Rattle.chart.proofs.singles.texts.Reads as reads
 use Rattle.chart.proofs.singles.texts.Lts as lts
 use Rattle.chart.proofs.singles.text_fits.Reads as text-fits-reads
 use Rattle.chart.proofs.singles.has_length.Reads as has-length-reads
-use Rattle.cells.proofs.put.Reads as put-reads
+use Rattle.chart_cells.proofs.put.Reads as put-reads
 use Rattle.sheet.proofs.text_of.Reads as text-of-reads
-use Rattle.trailer.proofs.field.Reads as field-reads
+use Rattle.sheet_trailer.proofs.field.Reads as field-reads
 
 abbrev Inv-loop : tie.InvT-loop
 Inv-loop s places lay work₀ i m sp at n text q₀ work q = (q ≤ n) × Adds sp (among (grammarOf s) (fitting (textOf s) (pattern (sheetOf s) (placesIn places)) m i) q) work₀ work

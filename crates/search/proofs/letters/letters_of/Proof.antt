@@ -7,9 +7,9 @@ use Rattle.search.proofs.letters.letters_of.Statement.{statement}
 use Rattle.search.proofs.letters.letters_of.Tie as tie
 use Rattle.search.proofs.letters.letters_of.Reads as reads
 use Rattle.search.proofs.letters.letters_of.Lts as lts
-use Rattle.trailer.proofs.field.Reads as field-reads
-use Rattle.state.proofs.Letters.none.Reads as none-reads
-use Rattle.state.proofs.Letters.with.Reads as with-reads
+use Rattle.sheet_trailer.proofs.field.Reads as field-reads
+use Rattle.walk_state.proofs.Letters.none.Reads as none-reads
+use Rattle.walk_state.proofs.Letters.with.Reads as with-reads
 
 abbrev Inv-loop : tie.InvT-loop
 Inv-loop s at n l₀ i₀ l i = RangesTo s i (l .of) × (i ≤ n)

@@ -1,0 +1,41 @@
+use native.Mathlib.Omega.{arith}
+use borrow.Author.Needs.{needs}
+use borrow.Author.Tests.{ne-eqb, lt-ltb, le-ltb}
+use Rattle.paper.specs.Records.{assertFields}
+use Rattle.sheet_records.proofs.rules.assert_fields.Statement.{statement}
+use Rattle.sheet_records.proofs.rules.assert_fields.Tie as tie
+
+add-result : tie.Need-add-result
+add-result c = search needs
+
+add-result-2 : tie.Need-add-result-2
+add-result-2 c = search needs
+
+returns : tie.Need-returns
+unfolding assertFields
+returns c = rw (c .before .match .keys1, lt-ltb _ _ (c .if1 .taken))
+
+returns-2 : tie.Need-returns-2
+unfolding assertFields
+returns-2 c = rw (c .before .match .keys1, le-ltb _ _ (c .if1 .left))
+
+returns-3 : tie.Need-returns-3
+unfolding assertFields
+returns-3 c = rw (c .match .keys2)
+
+returns-4 : tie.Need-returns-4
+unfolding assertFields
+returns-4 c = rw (c .match .keys3)
+
+returns-5 : tie.Need-returns-5
+unfolding assertFields
+returns-5 c = rw (c .match .keys4)
+
+returns-6 : tie.Need-returns-6
+unfolding assertFields
+returns-6 c = simp
+    (ne-eqb (c .before .args .kind) 1 (λ e. omega arith), ne-eqb (c .before .args .kind) 2 (λ e. omega arith), ne-eqb (c .before .args .kind) 3 (λ e. omega arith))
+
+pub assert-fields-spec : {M : Type 1} → statement M
+assert-fields-spec =
+    tie.close (tie.spec add-result add-result-2 returns returns-2 returns-3 returns-4 returns-5 returns-6)
