@@ -1,15 +1,14 @@
 -- Two results that the solver's promise allows coincide.
 -- Assumes nothing.
-use Prim.Native.Nat.{ℕ}
-use mathlib.Core.Path.{_≡_, refl, sym, ap, _∙_}
+use mathlib.Core.Path.{_≡_, refl}
 use mathlib.Core.Bool.{cond}
-use mathlib.Core.List.{List}
 use lib.Dec.{eqb}
 use Rattle.paper.specs.Answers.{Report}
+use Rattle.paper.specs.Promises.{SolvesCoincide}
+use Rattle.paper.proofs.Coincide.{solves-coincide}
 use Rattle.solver.specs.declared.Solved.{Solved}
 use Rattle.solver.specs.declared.Solved.the-variants as case
 use Rattle.solver.specs.Reported.{reported}
-use Rattle.solver.specs.Promise.{Promise}
 
 -- the case of a report
 abbrev caseOf : Report → Solved
@@ -42,8 +41,5 @@ case-of case.Term = refl
 case-of case.Workspace = refl
 case-of case.Output = refl
 
--- two results allowed by the promise coincide, and so do the buffers
-pub coincide : (s : List ℕ) (budget : ℕ) (work out : List ℕ) (r q : Solved) (work′ work″ out′ out″ : List ℕ)
-    → Promise s budget work out r work′ out′ → Promise s budget work out q work″ out″ → (r ≡ q) × (work′ ≡ work″) × (out′ ≡ out″)
-coincide s budget work out r q work′ work″ out′ out″ a b =
-    (sym (case-of r) ∙ ap caseOf (a .said ∙ sym (b .said)) ∙ case-of q, a .cleared ∙ sym (b .cleared), a .wrote ∙ sym (b .wrote))
+pub coincide : SolvesCoincide reported
+coincide = solves-coincide reported caseOf case-of

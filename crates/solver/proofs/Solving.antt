@@ -12,13 +12,13 @@ use Rattle.paper.specs.Sheet.{Sheet, sheetOf, letter}
 use Rattle.paper.specs.Opens.{opens}
 use Rattle.paper.specs.Walk.{walk}
 use Rattle.paper.specs.Answers.{Said, Found, None, Spent, Refused, Report, reportOf, outAfter, workAfter, words, zeroed, under, walkOf, solverRefusal, solverSays}
+use Rattle.paper.specs.Promises.{says, Solves}
 use Rattle.paper.proofs.Meaning.{Means, answer-means}
-use Rattle.workspace.specs.Within.{Within}
+use Rattle.chart.specs.Cells.{Within}
 use Rattle.walk_state.specs.Letters.{hasLetter}
 use Rattle.search.specs.Tells.{Tells}
 use Rattle.search.specs.declared.Sought.{Sought}
 use Rattle.solver.specs.Reported.{refused}
-use Rattle.solver.specs.Promise.{says}
 
 -- ---- the walk of the search is the sheet's
 
@@ -68,9 +68,13 @@ cleared-same s budget work w v k e =
 
 module _ (s : List ℕ) (budget : ℕ) (work out : List ℕ) where
   -- a refusal as the promise words it
-  pub refusing : (n : ℕ) → says s budget work out ≡ Refused n
-      → (refused n ≡ reportOf (says s budget work out)) × ((work ≡ workAfter (says s budget work out) work) × (out ≡ outAfter (says s budget work out) out))
-  refusing n e = rw e (refl, (refl, refl))
+  pub refusing : (n : ℕ) → says s budget work out ≡ Refused n → Solves s budget work out (refused n) work out
+  refusing n e = record { said = rw e; cleared = rw e; wrote = rw e }
+
+  -- an answer as the promise words it
+  pub answering : (r : Report) (work′ out′ : List ℕ) → let a = under budget (walkOf (sheetOf s)) in
+      says s budget work out ≡ a → (r ≡ reportOf a) × ((work′ ≡ workAfter a work) × (out′ ≡ outAfter a out)) → Solves s budget work out r work′ out′
+  answering r work′ out′ e p = record { said = rw e (p .0); cleared = rw e (p .1 .0); wrote = rw e (p .1 .1) }
 
   pub says-refused : 0 < solverRefusal s (length work) (length out) → says s budget work out ≡ Refused (solverRefusal s (length work) (length out))
   unfolding solverSays

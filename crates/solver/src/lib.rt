@@ -6,10 +6,10 @@ ghost use Rattle.paper.specs.Trailer.{longest};
 ghost use Rattle.paper.specs.Refusals.{refusal};
 ghost use Rattle.paper.specs.Sheet.{sheetOf};
 ghost use Rattle.paper.specs.Answers.{written, reportOf, outAfter, workAfter, under, walkOf};
-ghost use Rattle.workspace.specs.Within.{Within};
+ghost use Rattle.paper.specs.Promises.{Solves};
+ghost use Rattle.chart.specs.Cells.{Within};
 ghost use Rattle.search.specs.Tells.{Tells, foundReport};
 ghost use Rattle.solver.specs.Reported.{reported};
-ghost use Rattle.solver.specs.Promise.{says};
 
 // Each case one of the paper's numbers: 0 with the word's length and its trials, 1 with the full count, 2 with the budget;
 // then 10 to 19 in their order.
@@ -84,9 +84,7 @@ fn answer(s: &[u8], budget: u64, work: &mut [u64], out: &mut [u8]) -> Solved
 // 18 and 19, of an accepted sheet; then its answer.
 fn lent(s: &[u8], budget: u64, work: &mut [u64], out: &mut [u8]) -> Solved
     requires { ⌜ refusal (now s) ≡ 0 ⌝ }
-    ensures said { λ r. ⌜ reported r ≡ reportOf (says (now (s .entry)) budget (now (work .entry)) (now (out .entry))) ⌝ }
-    ensures cleared { λ r. ⌜ now (work .exit) ≡ workAfter (says (now (s .entry)) budget (now (work .entry)) (now (out .entry))) (now (work .entry)) ⌝ }
-    ensures wrote { λ r. ⌜ now (out .exit) ≡ outAfter (says (now (s .entry)) budget (now (work .entry)) (now (out .entry))) (now (out .entry)) ⌝ }
+    ensures { λ r. ⌜ Solves (now (s .entry)) budget (now (work .entry)) (now (out .entry)) (reported r) (now (work .exit)) (now (out .exit)) ⌝ }
 {
     if work.len() < paper::WORDS {
         return Solved::Workspace;
@@ -99,9 +97,7 @@ fn lent(s: &[u8], budget: u64, work: &mut [u64], out: &mut [u8]) -> Solved
 
 // What is said of any bytes and any budget, lent any workspace and any output.
 pub fn solve(sheet: &[u8], budget: u64, work: &mut [u64], out: &mut [u8]) -> Solved
-    ensures said { λ r. ⌜ reported r ≡ reportOf (says (now (sheet .entry)) budget (now (work .entry)) (now (out .entry))) ⌝ }
-    ensures cleared { λ r. ⌜ now (work .exit) ≡ workAfter (says (now (sheet .entry)) budget (now (work .entry)) (now (out .entry))) (now (work .entry)) ⌝ }
-    ensures wrote { λ r. ⌜ now (out .exit) ≡ outAfter (says (now (sheet .entry)) budget (now (work .entry)) (now (out .entry))) (now (out .entry)) ⌝ }
+    ensures { λ r. ⌜ Solves (now (sheet .entry)) budget (now (work .entry)) (now (out .entry)) (reported r) (now (work .exit)) (now (out .exit)) ⌝ }
 {
     let v = sheet::check(sheet);
     match v {

@@ -1,11 +1,9 @@
 // The calls of the solver, the maker and the gate as C makes them: a slice is a pointer and a length, an answer a number or a struct by value.
 ghost use mathlib.Core.Path.{_≡_};
 ghost use Prim.Native.Nat.{_<_};
-ghost use lib.ListN.{length};
-ghost use Rattle.paper.specs.Answers.{reportOf, outAfter, workAfter, makerSays, spaceAfter, gateSays, gateLeaves};
+ghost use Rattle.paper.specs.Promises.{Solves, Makes, Gates};
 ghost use Rattle.solver.specs.Reported.{refused, reported};
-ghost use Rattle.solver.specs.Promise.{says};
-ghost use Rattle.maker.specs.Promise.{reportOf as making};
+ghost use Rattle.maker.specs.Reported.{reported as making};
 ghost use Rattle.strovimel_c.specs.Structs.{solvedReport, madeReport};
 
 // The solver's answer: its number, the word's length, the trials.
@@ -90,9 +88,7 @@ pub extern "C" fn strovimel_solve(
     work: &mut [u64],
     out: &mut [u8],
 ) -> Solved
-    ensures said { λ r. ⌜ solvedReport r ≡ reportOf (says (now (sheet .entry)) budget (now (work .entry)) (now (out .entry))) ⌝ }
-    ensures cleared { λ r. ⌜ now (work .exit) ≡ workAfter (says (now (sheet .entry)) budget (now (work .entry)) (now (out .entry))) (now (work .entry)) ⌝ }
-    ensures wrote { λ r. ⌜ now (out .exit) ≡ outAfter (says (now (sheet .entry)) budget (now (work .entry)) (now (out .entry))) (now (out .entry)) ⌝ }
+    ensures { λ r. ⌜ Solves (now (sheet .entry)) budget (now (work .entry)) (now (out .entry)) (solvedReport r) (now (work .exit)) (now (out .exit)) ⌝ }
 {
     tell_solved(solver::solve(sheet, budget, work, out))
 }
@@ -100,8 +96,7 @@ pub extern "C" fn strovimel_solve(
 // The cut list of a sheet's row for a length, at the start of the space lent.
 #[no_mangle]
 pub extern "C" fn strovimel_make(sheet: &[u8], row: u64, n: u64, list: &mut [u8]) -> Made
-    ensures said { λ r. ⌜ madeReport r ≡ makerSays (now (sheet .entry)) row n (length (now (list .entry))) ⌝ }
-    ensures wrote { λ r. ⌜ now (list .exit) ≡ spaceAfter (now (sheet .entry)) row n (now (list .entry)) ⌝ }
+    ensures { λ r. ⌜ Makes (now (sheet .entry)) row n (now (list .entry)) (madeReport r) (now (list .exit)) ⌝ }
 {
     tell_made(maker::make(sheet, row, n, list))
 }
@@ -109,8 +104,7 @@ pub extern "C" fn strovimel_make(sheet: &[u8], row: u64, n: u64, list: &mut [u8]
 // Whether the list accepts the word, with the text: on any list, text, word and workspace.
 #[no_mangle]
 pub extern "C" fn strovimel_gate(list: &[u8], text: &[u8], word: &[u8], work: &mut [u64]) -> u32
-    ensures said { λ r. ⌜ r ≡ gateSays (now (list .entry)) (now (text .entry)) (now (word .entry)) (length (now (work .entry))) ⌝ }
-    ensures left { λ r. ⌜ now (work .exit) ≡ gateLeaves r (now (work .entry)) ⌝ }
+    ensures { λ r. ⌜ Gates (now (list .entry)) (now (text .entry)) (now (word .entry)) (now (work .entry)) r (now (work .exit)) ⌝ }
 {
     gate::number(gate::gate(list, text, word, work))
 }
