@@ -1,23 +1,26 @@
--- Two results that a call's promise allows coincide, whatever type the answers have, as long as an answer is told by what it reports.
+-- Two results that a call's promise allows coincide, and so does all that is left.
 -- Assumes nothing.
 use Prim.Native.Nat.{ℕ}
 use mathlib.Core.Path.{_≡_, sym, ap, _∙_}
-use Rattle.paper.specs.Answers.{Report, MakerReport, gateLeaves}
-use Rattle.paper.specs.Promises.{SolvesCoincide, MakesCoincide, GatesCoincide}
+use mathlib.Core.List.{List}
+use Rattle.paper.specs.Answers.{Said, MakerReport, gateLeaves}
+use Rattle.paper.specs.Promises.{Solves, Makes, Gates}
 
--- answers that report the same are the same where the report gives the answer back
-pub told : {A B : Type 0} (report : A → B) (back : B → A) → ((r : A) → back (report r) ≡ r) → (r q : A) → report r ≡ report q → r ≡ q
-told report back same r q e = sym (same r) ∙ ap back e ∙ same q
+pub solves-coincide : {A : Type 0} (tell : Said → A) (sheet : List ℕ) (budget : ℕ) (work out : List ℕ) (r q : A) (work′ work″ out′ out″ : List ℕ)
+    → Solves tell sheet budget work out r work′ out′ → Solves tell sheet budget work out q work″ out″ → (r ≡ q) × (work′ ≡ work″) × (out′ ≡ out″)
+solves-coincide tell sheet budget work out r q work′ work″ out′ out″ a b = (a .said ∙ sym (b .said), a .cleared ∙ sym (b .cleared), a .wrote ∙ sym (b .wrote))
 
-pub solves-coincide : {A : Type 0} (report : A → Report) (back : Report → A) → ((r : A) → back (report r) ≡ r) → SolvesCoincide report
-solves-coincide report back same s budget work out r q work′ work″ out′ out″ a b =
-    (told report back same r q (a .said ∙ sym (b .said)), a .cleared ∙ sym (b .cleared), a .wrote ∙ sym (b .wrote))
+pub makes-coincide : {A : Type 0} (tell : MakerReport → A) (sheet : List ℕ) (row n : ℕ) (space : List ℕ) (r q : A) (space′ space″ : List ℕ)
+    → Makes tell sheet row n space r space′ → Makes tell sheet row n space q space″ → (r ≡ q) × (space′ ≡ space″)
+makes-coincide tell sheet row n space r q space′ space″ a b = (a .said ∙ sym (b .said), a .wrote ∙ sym (b .wrote))
 
-pub makes-coincide : {A : Type 0} (report : A → MakerReport) (back : MakerReport → A) → ((r : A) → back (report r) ≡ r) → MakesCoincide report
-makes-coincide report back same s row n space r q space′ space″ a b =
-    (told report back same r q (a .said ∙ sym (b .said)), a .wrote ∙ sym (b .wrote))
-
-pub gates-coincide : {A : Type 0} (number : A → ℕ) (back : ℕ → A) → ((g : A) → back (number g) ≡ g) → GatesCoincide number
-gates-coincide number back same list text word work g h work′ work″ a b =
+-- the gate's number; where an answer is told by its number, the answer
+pub gates-coincide : (list text word work : List ℕ) (k m : ℕ) (work′ work″ : List ℕ)
+    → Gates list text word work k work′ → Gates list text word work m work″ → (k ≡ m) × (work′ ≡ work″)
+gates-coincide list text word work k m work′ work″ a b =
     let e = a .said ∙ sym (b .said) in
-    (told number back same g h e, a .left ∙ ap (λ k. gateLeaves k work) e ∙ sym (b .left))
+    (e, a .left ∙ ap (λ n. gateLeaves n work) e ∙ sym (b .left))
+
+-- answers with the same number are the same where the number gives the answer back
+pub told : {A B : Type 0} (number : A → B) (back : B → A) → ((r : A) → back (number r) ≡ r) → (r q : A) → number r ≡ number q → r ≡ q
+told number back same r q e = sym (same r) ∙ ap back e ∙ same q

@@ -7,7 +7,7 @@ use mathlib.Core.List.{List}
 use lib.ListN.{length}
 use Rattle.paper.specs.Refusals.{latest, refusal}
 use Rattle.paper.specs.Gate.{wellFormed}
-use Rattle.paper.specs.Answers.{Said, Report, reportOf, outAfter, workAfter, solverSays, MakerReport, makerSays, spaceAfter, gateSays, gateLeaves}
+use Rattle.paper.specs.Answers.{Said, outAfter, workAfter, solverSays, MakerReport, makerSays, spaceAfter, gateSays, gateLeaves}
 
 -- the check of a sheet: the number of its first fault, or 0
 abbrev pub Checks : (sheet : List ℕ) (number : ℕ) → Type 0
@@ -17,15 +17,15 @@ Checks sheet number = number ≡ refusal latest sheet
 abbrev pub says : (sheet : List ℕ) (budget : ℕ) (work out : List ℕ) → Said
 says sheet budget work out = solverSays sheet budget (length work) (length out)
 
--- the solver: what it reports, the workspace after the call, and the output after it
-pub record Solves (sheet : List ℕ) (budget : ℕ) (work out : List ℕ) (r : Report) (work′ out′ : List ℕ) : Type 0 where
-  pub said : r ≡ reportOf (says sheet budget work out)
+-- the solver: its answer, by whatever type tells what is said, the workspace after the call, and the output after it
+pub record Solves {A : Type 0} (tell : Said → A) (sheet : List ℕ) (budget : ℕ) (work out : List ℕ) (r : A) (work′ out′ : List ℕ) : Type 0 where
+  pub said : r ≡ tell (says sheet budget work out)
   pub cleared : work′ ≡ workAfter (says sheet budget work out) work
   pub wrote : out′ ≡ outAfter (says sheet budget work out) out
 
--- the maker: what it reports, and the space after the call
-pub record Makes (sheet : List ℕ) (row n : ℕ) (space : List ℕ) (r : MakerReport) (space′ : List ℕ) : Type 0 where
-  pub said : r ≡ makerSays sheet row n (length space)
+-- the maker: its answer, by whatever type tells what is reported, and the space after the call
+pub record Makes {A : Type 0} (tell : MakerReport → A) (sheet : List ℕ) (row n : ℕ) (space : List ℕ) (r : A) (space′ : List ℕ) : Type 0 where
+  pub said : r ≡ tell (makerSays sheet row n (length space))
   pub wrote : space′ ≡ spaceAfter sheet row n space
 
 -- the test of a list: whether it is well formed with a text of so many bytes
@@ -36,23 +36,3 @@ Admits list text r = r ≡ wellFormed list text
 pub record Gates (list text word work : List ℕ) (number : ℕ) (work′ : List ℕ) : Type 0 where
   pub said : number ≡ gateSays list text word (length work)
   pub left : work′ ≡ gateLeaves number work
-
--- ---- "two results allowed coincide": answers of a type A that are told by what they report, and what is left
-
-abbrev pub SolvesCoincide : {A : Type 0} → (A → Report) → Type 0
-SolvesCoincide {A} report =
-    (sheet : List ℕ) (budget : ℕ) (work out : List ℕ) (r q : A) (work′ work″ out′ out″ : List ℕ)
-    → Solves sheet budget work out (report r) work′ out′ → Solves sheet budget work out (report q) work″ out″
-    → (r ≡ q) × (work′ ≡ work″) × (out′ ≡ out″)
-
-abbrev pub MakesCoincide : {A : Type 0} → (A → MakerReport) → Type 0
-MakesCoincide {A} report =
-    (sheet : List ℕ) (row n : ℕ) (space : List ℕ) (r q : A) (space′ space″ : List ℕ)
-    → Makes sheet row n space (report r) space′ → Makes sheet row n space (report q) space″
-    → (r ≡ q) × (space′ ≡ space″)
-
-abbrev pub GatesCoincide : {A : Type 0} → (A → ℕ) → Type 0
-GatesCoincide {A} number =
-    (list text word work : List ℕ) (g h : A) (work′ work″ : List ℕ)
-    → Gates list text word work (number g) work′ → Gates list text word work (number h) work″
-    → (g ≡ h) × (work′ ≡ work″)

@@ -21,16 +21,6 @@ pub struct Made {
     pub length: u32,
 }
 
-fn refused_by(number: u32) -> Solved
-    ensures { λ r. ⌜ solvedReport r ≡ refused number ⌝ }
-{
-    Solved {
-        number: number,
-        length: 0,
-        trials: 0,
-    }
-}
-
 fn tell_solved(a: solver::Solved) -> Solved
     requires { ⌜ reported a .length < 4294967296 ⌝ }
     ensures { λ r. ⌜ solvedReport r ≡ reported a ⌝ }
@@ -51,16 +41,11 @@ fn tell_solved(a: solver::Solved) -> Solved
             length: 0,
             trials: trials,
         },
-        solver::Solved::Short => refused_by(10),
-        solver::Solved::Long => refused_by(11),
-        solver::Solved::Mark => refused_by(12),
-        solver::Solved::Total => refused_by(13),
-        solver::Solved::Counts => refused_by(14),
-        solver::Solved::Offsets => refused_by(15),
-        solver::Solved::Record => refused_by(16),
-        solver::Solved::Term => refused_by(17),
-        solver::Solved::Workspace => refused_by(18),
-        solver::Solved::Output => refused_by(19),
+        solver::Solved::Refused(f) => Solved {
+            number: f.number,
+            length: 0,
+            trials: 0,
+        },
     }
 }
 
@@ -73,8 +58,8 @@ fn tell_made(a: maker::Made) -> Made
             number: 0,
             length: length as u32,
         },
-        maker::Made::Refused(number) => Made {
-            number: number as u32,
+        maker::Made::Refused(f) => Made {
+            number: f.number,
             length: 0,
         },
     }
@@ -88,7 +73,7 @@ pub extern "C" fn strovimel_solve(
     work: &mut [u64],
     out: &mut [u8],
 ) -> Solved
-    ensures { λ r. ⌜ Solves (now (sheet .entry)) budget (now (work .entry)) (now (out .entry)) (solvedReport r) (now (work .exit)) (now (out .exit)) ⌝ }
+    ensures { λ r. ⌜ Solves solvedOf (now (sheet .entry)) budget (now (work .entry)) (now (out .entry)) r (now (work .exit)) (now (out .exit)) ⌝ }
 {
     tell_solved(solver::solve(sheet, budget, work, out))
 }
@@ -96,7 +81,7 @@ pub extern "C" fn strovimel_solve(
 // The cut list of a sheet's row for a length, at the start of the space lent.
 #[no_mangle]
 pub extern "C" fn strovimel_make(sheet: &[u8], row: u64, n: u64, list: &mut [u8]) -> Made
-    ensures { λ r. ⌜ Makes (now (sheet .entry)) row n (now (list .entry)) (madeReport r) (now (list .exit)) ⌝ }
+    ensures { λ r. ⌜ Makes madeOf (now (sheet .entry)) row n (now (list .entry)) r (now (list .exit)) ⌝ }
 {
     tell_made(maker::make(sheet, row, n, list))
 }
