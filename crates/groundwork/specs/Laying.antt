@@ -42,10 +42,6 @@ pub record Texts (s : Sheet) (text : List ℕ) (n : ℕ) (ws : List ℕ) : Type 
   pub told : (k : ℕ) → k < n → textBit ws k ≡ letter s (getD text k 0)
   pub later : (k : ℕ) → n ≤ k → k < 1024 → textBit ws k ≡ false
 
--- a row's kind is one of the six, and its children, if it has any, are below 256
-abbrev pub Proper : (kind a b : ℕ) → Type 0
-Proper kind a b = (1 ≤ kind) × (kind ≤ 6) × (4 ≤ kind → (a < 256) × (b < 256))
-
 -- the word x is the pair of row q, given as a row
 abbrev pub PairOf : (q : ℕ) → Row → ℕ → Type 0
 PairOf q r x = (a : ℕ) × (b : ℕ) × (q < 256) × (a < 256) × (b < 256) × (x ≡ pairWord q a b) × Splits q r a b
