@@ -1,4 +1,4 @@
-use Prim.Native.Nat.{_-_}
+use Prim.Native.Nat.{_-_, _≤_}
 use mathlib.Core.Path.{_≡_, sym, _∙_}
 use native.Mathlib.Omega.{arith}
 use borrow.Author.Needs.{needs}
@@ -40,7 +40,9 @@ slice-aggregate-judged c = sym (c .before .before .before .before .before .loop 
 judged-requires : tie.Need-judged-requires Inv-loop μ-loop
 judged-requires c κs =
     let i = c .before .before .before .before .before .before .loop .inv .0 in
-    (c .before .before .before .before .before .before .before .before .before .before .before .pre .0, c .before .before .before .before .before .before .before .before .before .before .before .pre .0 .ground, i .within, omega (arith, i .frame .letters, i .within, i .range, i .top), omega (arith, i .range, c .before .before .before .before .before .before .before .before .before .before .before .pre .2), omega (arith, c .before .before .before .before .before .before .loop .inv .2 .long, c .before .before .before .before .before .before .before .before .before .before .before .pre .0 .room))
+    let start = c .before .before .before .before .before .before .before .before .before .before .before in
+    let room : 7564 ≤ length (c .before .before .before .before .before .before .loop .work) = omega (arith, c .before .before .before .before .before .before .loop .inv .2 .long, start .pre .0 .room) in
+    (record { good = start .pre .0 .good; ground = start .pre .0 .ground; room = room }, i .within, omega (arith, i .frame .letters, i .within, i .range, i .top), omega (arith, i .range, start .pre .2))
 
 is-word-requires : tie.Need-is-word-requires Inv-loop μ-loop
 is-word-requires c κs = tt
