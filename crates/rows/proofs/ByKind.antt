@@ -1,51 +1,14 @@
--- A row by its kind: what its steps are, and that they are the steps that keep the length.
+-- A row by its kind: its steps lead to rows, and are the steps that keep the length.
 -- Assumes nothing.
-use Prim.Native.Nat.{ℕ, _<_, _≤_}
-use mathlib.Core.Path.{_≡_, refl, sym, _∙_}
+use Prim.Native.Nat.{ℕ, _<_}
+use mathlib.Core.Path.{_≡_, refl, sym}
 use mathlib.Core.Bool.{Bool, true, false, true≢false}
 use mathlib.Core.Logic.{_⊎_, inl, inr}
-use mathlib.Core.List.{List}
-use native.Mathlib.Omega.{arith}
-use lib.ListN.{length}
-use Rattle.paper.specs.Sheet.{grammarOf}
 use Rattle.paper.specs.Rows.{Row, Empty, Range, Text, Alt, Seq, Star, Grammar, row, Keeps}
 use Rattle.paper.specs.Decide.{nullable}
 use Rattle.paper.proofs.Reaching.{nullable-right}
 use Rattle.paper.proofs.Sound.{SoundRow}
-use Rattle.sheet_trailer.specs.declared.Table.{Table}
-use Rattle.sheet_contents.specs.declared.Row as code
-use Rattle.sheet_contents.specs.Read.{asRow}
-use Rattle.sheet.specs.Readers.{RowRead}
-use Rattle.sheet.proofs.Contents.{rows-length}
-use Rattle.rows.specs.Sets.{RowsAt, stepsOf}
-
--- ---- the rows of an accepted sheet
-
--- a row's rule, over a longer text and more rows
-sound-more : {t u n m : ℕ} (x : Row) → t ≤ u → n ≤ m → SoundRow t n x → SoundRow u m x
-sound-more Empty p q h = h
-sound-more (Range a b) p q h = h
-sound-more (Text a b) p q h = omega arith
-sound-more (Alt a b) p q h = (omega (arith, h .0), omega (arith, h .1))
-sound-more (Seq a b) p q h = (omega (arith, h .0), omega (arith, h .1))
-sound-more (Star a) p q h = omega arith
-
-module _ {s : List ℕ} {t : Table} (here : RowsAt s t) where
-  pub rows-few : t .count ≤ 256
-  rows-few = rw (here .table .counts) (here .good .counts 2 (omega arith) .1)
-
-  pub rows-all : t .count ≡ length (grammarOf s .rows)
-  rows-all = here .table .counts ∙ sym (rows-length s)
-
-  -- a row's children are among them
-  pub row-inside : {i : ℕ} {r : code.Row} → RowRead s i r → SoundRow 1024 (t .count) (asRow r)
-  row-inside {r = r} h = sound-more (asRow r) (here .good .counts 1 (omega arith) .1) (omega (arith, here .table .counts)) (h .sound)
-
-  -- a row of any accepted sheet
-  pub row-sound : {i : ℕ} {r : code.Row} → RowRead s i r → SoundRow 1024 256 (asRow r)
-  row-sound {r = r} h = sound-more (asRow r) (omega arith) rows-few (row-inside h)
-
--- ---- a row's steps
+use Rattle.rows.specs.Sets.{stepsOf}
 
 -- they lead to rows
 pub steps-in : (null : ℕ → Bool) (text n : ℕ) (x : Row) → SoundRow text n x

@@ -4,7 +4,7 @@ use borrow.Author.Tests.{not-true, not-false}
 use Rattle.paper.specs.Sheet.{grammarOf}
 use Rattle.workspace.specs.Room.{room}
 use Rattle.rows.specs.Sets.{NullSound}
-use Rattle.rows.proofs.ByKind.{rows-all}
+use Rattle.sheet.proofs.Rows.{rows-all}
 use Rattle.rows.proofs.NullLaws.{null-start, null-end}
 use borrow.Author.Needs.{needs}
 use native.Mathlib.Omega.{arith}
@@ -21,7 +21,7 @@ abbrev μ-loop : tie.MeasureT-loop
 returns : tie.Need-returns Inv-loop μ-loop
 returns c =
     let p = c .before .before .before .null-pass .ensures in
-    null-end _ _ (p .sound (c .before .before .before .before .before .loop .inv .1)) (λ r h. p .settled (not-true _ (c .if1 .taken)) r (omega (arith, h, rows-all (c .before .before .before .before .before .before .before .before .before .before .before .before .pre .0))))
+    null-end _ _ (p .sound (c .before .before .before .before .before .loop .inv .1)) (λ r h. p .settled (not-true _ (c .if1 .taken)) r (omega (arith, h, rows-all (c .before .before .before .before .before .before .before .before .before .before .before .before .pre .0 .table))))
 
 pub nulls-spec : {M : Type 1} → statement M
 nulls-spec =

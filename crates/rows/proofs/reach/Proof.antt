@@ -4,7 +4,7 @@ use borrow.Author.Tests.{not-true, not-false}
 use Rattle.paper.specs.Sheet.{grammarOf}
 use Rattle.workspace.specs.Room.{room}
 use Rattle.rows.specs.Sets.{ReachSound}
-use Rattle.rows.proofs.ByKind.{rows-few, rows-all}
+use Rattle.sheet.proofs.Rows.{rows-few, rows-all}
 use Rattle.rows.proofs.ReachLaws.{reach-start, reach-end}
 use borrow.Author.Needs.{needs}
 use native.Mathlib.Omega.{arith}
@@ -21,7 +21,7 @@ abbrev μ-loop : tie.MeasureT-loop
 returns : tie.Need-returns Inv-loop μ-loop
 returns c =
     let p = c .before .before .before .reach-pass .ensures in
-    reach-end _ _ (p .sound (c .before .before .before .before .before .loop .inv .1)) (λ r h. p .settled (not-true _ (c .if1 .taken)) r (omega (arith, h, rows-all (c .before .before .before .before .before .before .before .before .before .before .before .before .before .pre .0))))
+    reach-end _ _ (p .sound (c .before .before .before .before .before .loop .inv .1)) (λ r h. p .settled (not-true _ (c .if1 .taken)) r (omega (arith, h, rows-all (c .before .before .before .before .before .before .before .before .before .before .before .before .before .pre .0 .table))))
 
 pub reach-spec : {M : Type 1} → statement M
 reach-spec =
@@ -29,8 +29,8 @@ reach-spec =
     (tie.spec
     Inv-loop
     μ-loop
-    (λ c κs. (rows-few (c .before .before .before .before .pre .0), c .before .before .before .before .pre .3))
-    (λ c. (refl, reach-start _ _ (rows-all (c .before .before .before .before .before .before .before .pre .0)) (c .before .before .start .ensures)))
+    (λ c κs. (rows-few (c .before .before .before .before .pre .0 .good) (c .before .before .before .before .pre .0 .table), c .before .before .before .before .pre .3))
+    (λ c. (refl, reach-start _ _ (rows-all (c .before .before .before .before .before .before .before .pre .0 .table)) (c .before .before .start .ensures)))
     (λ c κs. (c .before .before .before .before .before .before .before .before .before .pre .0, c .before .before .before .before .before .before .before .before .before .pre .1, c .before .before .before .before .before .before .before .before .before .pre .2, omega (arith, c .before .loop .inv .0, c .before .before .before .before .start .kept .1 .0, c .before .before .before .before .before .before .before .before .before .pre .3)))
     (λ c. search needs)
     returns
