@@ -11,7 +11,7 @@ use borrow.Author.Tests.{lt-ltb, le-leb}
 use native.Mathlib.Omega.{arith}
 use native.Mathlib.Nat.{zero-add}
 use native.Mathlib.Numerals.{add-one}
-use Rattle.paper.specs.Bytes.{u8At}
+use Rattle.paper.specs.Bytes.{u8At, OfBytes}
 use Rattle.paper.specs.Tests.{anyBelow}
 use Rattle.paper.specs.Trailer.{countOf, recordAt}
 use Rattle.paper.specs.Rows.{row, noRow}
@@ -73,7 +73,7 @@ letter-is s b h =
     rw (lt-ltb b 256 h) (simp zero-add at (any-of-table (λ (r : Span). leb (r .low) b && leb b (r .high)) 0 (countOf s 0) (ofTable spanAt s 0)))
 
 -- an accepted sheet of bytes has a letter
-pub some-letter : (s : List ℕ) → ((i : ℕ) → u8At s i < 256) → Good s → (b : ℕ) × (b < 256) × (letter (sheetOf s) b ≡ true)
+pub some-letter : (s : List ℕ) → OfBytes s → Good s → (b : ℕ) × (b < 256) × (letter (sheetOf s) b ≡ true)
 some-letter s byte g =
     let b = u8At s (recordAt s 0 0) in
     let few : 0 < countOf s 0 = g .counts 0 (omega arith) .0 in

@@ -3,3 +3,4 @@ pub mod Contents
 pub mod Records
 pub mod Rows
 pub mod Soundness
+pub mod Coincide

@@ -9,7 +9,7 @@ use lib.Seq.{getD-set-same}
 use Rattle.paper.specs.Walk.{walk}
 use Rattle.paper.specs.Answers.{Found, None, Spent, under}
 use Rattle.walk_state.specs.declared.State.{State}
-use Rattle.walk_state.specs.Moves.{againOf, Marks}
+use Rattle.walk_state.specs.Moves.{startState, againOf, Marks}
 use Rattle.walk.specs.Progress.{Classes, Judging, Landed, Landing, At, Knows}
 use Rattle.walk.specs.Posts.{Advanced}
 use Rattle.walk.proofs.Steps.{marks-below}
@@ -29,19 +29,18 @@ module _ (is : ℕ → Bool) (slot : List ℕ) (opens : ℕ → List ℕ → Boo
     pub sofar : Length is slot opens lo hi n (getD (q .begun) 0 0)
     pub at : Judging is slot opens n q m
 
-  pub seek-start : (q : State) (m : List ℕ) → lo ≤ hi → hi ≤ 60 → length (q .prefix .bytes) ≡ 60 → length (q .begun) ≡ 61 → 480 ≤ length m → q .prefix .len ≡ 0 → q .trials ≡ 0 → q .over ≡ false → getD (q .begun) 0 0 ≡ 0
-      → Seeking lo q m
-  seek-start q m h t b l v e f o g = record {
+  pub seek-start : (q : State) (m : List ℕ) → q ≡ startState → lo ≤ hi → hi ≤ 60 → 480 ≤ length m → Seeking lo q m
+  seek-start q m e h t v = rw e record {
     range = h;
     top = t;
     within = omega arith;
     most = omega arith;
-    letters = b;
-    notes = l;
+    letters = refl;
+    notes = refl;
     tallies = v;
-    fine = o;
-    sofar = rw g (first-length is slot opens lo hi);
-    at = rw (e, f) (at-root is slot opens lo hi lo (q .prefix .bytes) (q .begun) m 0 g);
+    fine = refl;
+    sofar = first-length is slot opens lo hi;
+    at = at-root is slot opens lo hi lo (startState .prefix .bytes) (startState .begun) m 0 refl;
   }
 
   landed-judging : (n : ℕ) (q : State) (m : List ℕ) → (q .prefix .len ≡ 0 → ⊥) → Landed is slot opens n q m → Judging is slot opens n q m

@@ -22,7 +22,7 @@ well-formed-requires c κs = search needs
 returns : tie.Need-returns
 unfolding gateSays gateLeaves
 returns c =
-    (rw (← c .before .well-formed .ensures, not-true (c .before .well-formed .result) (c .if1 .taken)), refl)
+    record { said = rw (← c .before .well-formed .ensures, not-true (c .before .well-formed .result) (c .if1 .taken)); left = refl }
 
 trailer-of-requires : tie.Need-trailer-of-requires
 trailer-of-requires c κs =
@@ -32,12 +32,15 @@ returns-2 : tie.Need-returns-2
 unfolding gateSays gateLeaves
 returns-2 c =
     let a = c .before .before .before .before .before .before .before .before .args in
-    (rw (well (c .before .before), ne-eqb (length (a .word .now)) (nOf (a .list .now)) (λ e. omega (arith, c .before .trailer-of .ensures .length-is))), refl)
+    record {
+      said = rw (well (c .before .before), ne-eqb (length (a .word .now)) (nOf (a .list .now)) (λ e. omega (arith, c .before .trailer-of .ensures .length-is)));
+      left = refl;
+    }
 
 returns-3 : tie.Need-returns-3
 unfolding gateSays gateLeaves words
 returns-3 c =
-    (rw (well (c .before .before .before), eq-eqb _ _ (fit (c .before)), lt-leb _ _ (c .if3 .taken)), refl)
+    record { said = rw (well (c .before .before .before), eq-eqb _ _ (fit (c .before)), lt-leb _ _ (c .if3 .taken)); left = refl }
 
 read-requires : tie.Need-read-requires
 read-requires c κs =
@@ -49,7 +52,10 @@ same-length c = search needs
 returns-4 : tie.Need-returns-4
 unfolding gateSays gateLeaves words
 returns-4 c =
-    (rw (well (c .before .before .before .before .before .before .before .before), eq-eqb _ _ (fit (c .before .before .before .before .before .before)), le-leb _ _ (c .before .before .before .before .before .if3 .left), ← c .before .before .before .read .ensures .0, c .if4 .taken), c .before .before .before .read .ensures .1)
+    record {
+      said = rw (well (c .before .before .before .before .before .before .before .before), eq-eqb _ _ (fit (c .before .before .before .before .before .before)), le-leb _ _ (c .before .before .before .before .before .if3 .left), ← c .before .before .before .read .ensures .0, c .if4 .taken);
+      left = c .before .before .before .read .ensures .1;
+    }
 
 same-length-2 : tie.Need-same-length-2
 same-length-2 c = search needs
@@ -57,7 +63,10 @@ same-length-2 c = search needs
 returns-5 : tie.Need-returns-5
 unfolding gateSays gateLeaves words
 returns-5 c =
-    (rw (well (c .before .before .before .before .before .before .before .before), eq-eqb _ _ (fit (c .before .before .before .before .before .before)), le-leb _ _ (c .before .before .before .before .before .if3 .left), ← c .before .before .before .read .ensures .0, c .if4 .left), c .before .before .before .read .ensures .1)
+    record {
+      said = rw (well (c .before .before .before .before .before .before .before .before), eq-eqb _ _ (fit (c .before .before .before .before .before .before)), le-leb _ _ (c .before .before .before .before .before .if3 .left), ← c .before .before .before .read .ensures .0, c .if4 .left);
+      left = c .before .before .before .read .ensures .1;
+    }
 
 pub gate-spec : {M : Type 1} → statement M
 gate-spec =

@@ -32,7 +32,7 @@ start-requires : tie.Need-start-requires Inv-loop μ-loop
 start-requires c κs = tt
 
 loop-holds : tie.Need-loop-holds Inv-loop μ-loop
-loop-holds c = (seek-start _ _ _ _ _ _ (c .start .result) _ (c .before .before .before .before .pre .2) (omega (arith, good _ (c .before .before .before .before .pre .0) .short, c .before .before .before .before .pre .3)) (search needs) (search needs) (search needs) (c .start .ensures .0) (c .start .ensures .1) (c .start .ensures .2) (c .start .ensures .3), search needs, within-none _)
+loop-holds c = (seek-start _ _ _ _ _ _ (c .start .result) _ (c .start .ensures) (c .before .before .before .before .pre .2) (omega (arith, good _ (c .before .before .before .before .pre .0) .short, c .before .before .before .before .pre .3)) (search needs), search needs, within-none _)
 
 slice-aggregate-judged : tie.Need-slice-aggregate-judged Inv-loop μ-loop
 slice-aggregate-judged c = sym (c .before .before .before .before .before .loop .inv .0 .letters)
