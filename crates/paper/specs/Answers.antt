@@ -5,7 +5,7 @@ use mathlib.Core.List.{List, [], _∷_, _++_}
 use lib.Dec.{eqb, leb, ltb}
 use lib.ListN.{length, drop, replicate}
 use Rattle.paper.specs.Trailer.{countOf, longest, limit}
-use Rattle.paper.specs.Refusals.{unless, latest, refusal}
+use Rattle.paper.specs.Refusals.{Fault, plain, noFault, unless, orElse, latest, refusal}
 use Rattle.paper.specs.Sheet.{Sheet, sheetOf, grammarOf, letter}
 use Rattle.paper.specs.Opens.{opens}
 use Rattle.paper.specs.Walk.{Walked, found, none, count, walk}
@@ -30,33 +30,35 @@ pub data Said : Type 0 where
   Found : List ℕ → ℕ → Said  -- 0: the word, and its trials
   None : ℕ → Said  -- 1: the full count
   Spent : ℕ → Said  -- 2: the budget
-  Refused : ℕ → Said  -- 10 to 19
+  Refused : Fault → Said  -- 10 to 19
 
--- what is reported: the number, the word's length, the trials
+-- what is reported: the number, the table and the record; the word's length, the trials
 pub record Report : Type 0 where
   pub number : ℕ
+  pub table : ℕ
+  pub «record» : ℕ
   pub length : ℕ
   pub trials : ℕ
 
 abbrev pub reportOf : Said → Report
-reportOf (Found w t) = record { number = 0; length = length w; trials = t }
-reportOf (None t) = record { number = 1; length = 0; trials = t }
-reportOf (Spent b) = record { number = 2; length = 0; trials = b }
-reportOf (Refused n) = record { number = n; length = 0; trials = 0 }
+reportOf (Found w t) = record { number = 0; table = 0; «record» = 0; length = length w; trials = t }
+reportOf (None t) = record { number = 1; table = 0; «record» = 0; length = 0; trials = t }
+reportOf (Spent b) = record { number = 2; table = 0; «record» = 0; length = 0; trials = b }
+reportOf (Refused f) = record { number = f .number; table = f .table; «record» = f .«record»; length = 0; trials = 0 }
 
 -- the output after the call: only found writes to it
 abbrev pub outAfter : Said → List ℕ → List ℕ
 outAfter (Found w t) out = written w out
 outAfter (None t) out = out
 outAfter (Spent b) out = out
-outAfter (Refused n) out = out
+outAfter (Refused f) out = out
 
 -- the workspace after the call: a refusal changes nothing
 abbrev pub workAfter : Said → List ℕ → List ℕ
 workAfter (Found w t) work = zeroed words work
 workAfter (None t) work = zeroed words work
 workAfter (Spent b) work = zeroed words work
-workAfter (Refused n) work = work
+workAfter (Refused f) work = work
 
 -- a sheet's walk
 unfoldable pub walkOf : Sheet → Walked
@@ -75,44 +77,44 @@ unfoldable pub under : ℕ → Walked → Said
 under budget w = whether (ltb budget (count w)) (Spent budget) (whole w)
 
 -- 10 to 19: 18 a workspace of too few words, 19 an output shorter than the longest length
-unfoldable pub solverRefusal : (s : List ℕ) (work out : ℕ) → ℕ
+unfoldable pub solverRefusal : (s : List ℕ) (work out : ℕ) → Fault
 solverRefusal s work out =
-    cond (eqb (refusal latest s) 0)
-    (unless 18 (leb words work)
-    (unless 19 (leb (longest s) out) 0))
-    (refusal latest s)
+    orElse (refusal latest s)
+    (unless (plain 18) (leb words work)
+    (unless (plain 19) (leb (longest s) out) noFault))
 
 -- what the solver says of a sheet and a budget, lent so many words and bytes
 unfoldable pub solverSays : (s : List ℕ) (budget work out : ℕ) → Said
 solverSays s budget work out =
     let r = solverRefusal s work out in
     let a = under budget (walkOf (sheetOf s)) in
-    whether (eqb r 0) a (Refused r)
+    whether (eqb (r .number) 0) a (Refused r)
 
 -- ---- the maker
 
 -- 10 to 17, then 20 to 22: the row is not in the sheet, the length is above 60, the list is longer than the space
-unfoldable pub makerRefusal : (s : List ℕ) (row n space : ℕ) → ℕ
+unfoldable pub makerRefusal : (s : List ℕ) (row n space : ℕ) → Fault
 makerRefusal s row n space =
-    cond (eqb (refusal latest s) 0)
-    (unless 20 (ltb row (countOf s 2))
-    (unless 21 (leb n limit)
-    (unless 22 (leb (length (cutList (grammarOf s) row n)) space) 0)))
-    (refusal latest s)
+    orElse (refusal latest s)
+    (unless (plain 20) (ltb row (countOf s 2))
+    (unless (plain 21) (leb n limit)
+    (unless (plain 22) (leb (length (cutList (grammarOf s) row n)) space) noFault)))
 
--- what is reported: the number, the list's length
+-- what is reported: the number, the table and the record; the list's length
 pub record MakerReport : Type 0 where
   pub number : ℕ
+  pub table : ℕ
+  pub «record» : ℕ
   pub length : ℕ
 
 unfoldable pub makerSays : (s : List ℕ) (row n space : ℕ) → MakerReport
 makerSays s row n space =
     let r = makerRefusal s row n space in
-    record { number = r; length = cond (eqb r 0) (length (cutList (grammarOf s) row n)) 0 }
+    record { number = r .number; table = r .table; «record» = r .«record»; length = cond (eqb (r .number) 0) (length (cutList (grammarOf s) row n)) 0 }
 
 -- the space after the call: the list at its start where it is written, else as it was
 unfoldable pub spaceAfter : (s : List ℕ) (row n : ℕ) (space : List ℕ) → List ℕ
-spaceAfter s row n space = cond (eqb (makerRefusal s row n (length space)) 0) (written (cutList (grammarOf s) row n) space) space
+spaceAfter s row n space = cond (eqb (makerRefusal s row n (length space) .number) 0) (written (cutList (grammarOf s) row n) space) space
 
 -- ---- the gate
 

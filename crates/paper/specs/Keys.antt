@@ -72,14 +72,14 @@ pub data Key : Type 0 where
   Solves : (sheet : List ℕ) (budget : ℕ) → Said → Key  -- the solver, lent enough, says so
   Lists : (sheet : List ℕ) (row n : ℕ) (groups : List ℕ) (total : ℕ) → Key  -- the list has its groups there, and so many bytes
   Sizes : (sheet : List ℕ) (bytes : ℕ) → Key  -- the sheet has so many bytes
-  Refuses : (sheet : List ℕ) (work out number : ℕ) → Key  -- lent so many words and bytes, the solver refuses so; 0 where it does not
+  Refuses : (sheet : List ℕ) (work out number table item : ℕ) → Key  -- lent so many words and bytes, the solver refuses so, naming table and record; 0 where it does not
 
 abbrev pub Right : Key → Type 0
 Right (Solves s budget a) = solverSays s budget 7564 60 ≡ a
 Right (Lists s row n groups total) =
     (tableFrom 0 (n + 1) (groupAt (cutList (grammarOf s) row n)) ≡ groups) × (length (cutList (grammarOf s) row n) ≡ total)
 Right (Sizes s bytes) = length s ≡ bytes
-Right (Refuses s work out number) = solverRefusal s work out ≡ number
+Right (Refuses s work out number table item) = solverRefusal s work out ≡ record { number = number; table = table; «record» = item }
 
 -- the budget of the checking program
 abbrev pub million : ℕ
@@ -100,11 +100,11 @@ keys =
     Solves sheetK11 million (Found (48 ∷ 48 ∷ []) 3) ∷  -- K11
     Lists sheetK12 1 2 (0 ∷ 24 ∷ 56 ∷ []) 108 ∷  -- K12
     Sizes (sheetB 4 4) 96 ∷  -- "K4 .., a sheet of 96 bytes"
-    Refuses (sheetLong 60 2) 7564 60 0 ∷  -- longest 60 passes
-    Refuses (sheetLong 61 2) 7564 61 14 ∷  -- 61 is 14
-    Refuses (sheetTerm 20 40) 7564 60 0 ∷  -- a 60-byte term passes
-    Refuses (sheetTerm 20 41) 7564 60 17 ∷  -- 61 is 17
-    Refuses (sheetLong 60 2) 7563 60 18 ∷  -- 7,563 words is 18
-    Refuses (sheetLong 0 2) 7564 0 0 ∷  -- longest 0 accepts an output of no bytes
-    Refuses (sheetLong 61 3) 7564 60 14 ∷  -- 61 with a wrong offset is 14
+    Refuses (sheetLong 60 2) 7564 60 0 0 0 ∷  -- longest 60 passes
+    Refuses (sheetLong 61 2) 7564 61 141 0 0 ∷  -- 61 is 141
+    Refuses (sheetTerm 20 40) 7564 60 0 0 0 ∷  -- a 60-byte term passes
+    Refuses (sheetTerm 20 41) 7564 60 17 4 0 ∷  -- 61 is 17
+    Refuses (sheetLong 60 2) 7563 60 18 0 0 ∷  -- 7,563 words is 18
+    Refuses (sheetLong 0 2) 7564 0 0 0 0 ∷  -- longest 0 accepts an output of no bytes
+    Refuses (sheetLong 61 3) 7564 60 141 0 0 ∷  -- 61 with a wrong offset is 141
     []

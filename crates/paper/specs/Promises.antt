@@ -5,13 +5,13 @@ use mathlib.Core.Path.{_≡_}
 use mathlib.Core.Bool.{Bool}
 use mathlib.Core.List.{List}
 use lib.ListN.{length}
-use Rattle.paper.specs.Refusals.{latest, refusal}
+use Rattle.paper.specs.Refusals.{Fault, latest, refusal}
 use Rattle.paper.specs.Gate.{wellFormed}
 use Rattle.paper.specs.Answers.{Said, outAfter, workAfter, solverSays, MakerReport, makerSays, spaceAfter, gateSays, gateLeaves}
 
--- the check of a sheet: the number of its first fault, or 0
-abbrev pub Checks : (sheet : List ℕ) (number : ℕ) → Type 0
-Checks sheet number = number ≡ refusal latest sheet
+-- the check of a sheet: its first fault, or none
+abbrev pub Checks : {A : Type 0} → (tell : Fault → A) (sheet : List ℕ) → A → Type 0
+Checks tell sheet r = r ≡ tell (refusal latest sheet)
 
 -- what is to be said of a sheet and a budget, lent this workspace and this output
 abbrev pub says : (sheet : List ℕ) (budget : ℕ) (work out : List ℕ) → Said

@@ -1,4 +1,4 @@
--- "Each call checks in this order": the first fault of a sheet by its number, 10 to 17, and 0 where the sheet is accepted.
+-- "Each call checks in this order": the first fault of a sheet, 10 to 17 with 141 behind 14, and 0 where the sheet is accepted.
 use Prim.Native.Nat.{ℕ}
 use mathlib.Core.Path.{_≡_}
 use mathlib.Core.List.{List}
@@ -7,33 +7,63 @@ use lib.ListN.{length}
 use lib.Dec.{leb, eqb}
 use Rattle.paper.specs.Tests.{firstBad}
 use Rattle.paper.specs.Trailer.{sheetMost, markOk, totalOk, countOk, lengthsOk, offsetsOk, countOf}
-use Rattle.paper.specs.Records.{badTable, badTerm}
+use Rattle.paper.specs.Records.{badRecord, badTable, badTerm}
 
--- n unless the test holds, and then what follows
-abbrev pub unless : ℕ → Bool → ℕ → ℕ
-unless n test later = cond test later n
+-- "the answer shall carry a table number (0 letters to 4 assertions) and a record number"
+pub record Fault : Type 0 where
+  pub number : ℕ
+  pub table : ℕ
+  pub «record» : ℕ
+
+-- "all other answers carry table 0, record 0"
+abbrev pub plain : ℕ → Fault
+plain n = record { number = n; table = 0; «record» = 0 }
+
+-- no fault: the sheet is accepted
+abbrev pub noFault : Fault
+noFault = plain 0
+
+-- the one unless the test holds, and then what follows
+abbrev pub unless : {A : Type 0} → A → Bool → A → A
+unless f test later = cond test later f
+
+-- the sheet's fault where it has one, and else a later one
+abbrev pub orElse : Fault → Fault → Fault
+orElse f later = cond (eqb (f .number) 0) later f
+
+-- 14 "names the first table at fault, record 0"
+abbrev pub countFault : List ℕ → Fault
+countFault s = record { number = 14; table = firstBad (countOk s) 5; «record» = 0 }
+
+-- 16 names "the first offending record in table order"
+abbrev pub recordFault : List ℕ → Fault
+recordFault s = record { number = 16; table = badTable s; «record» = badRecord s (badTable s) }
+
+-- "17 names the first assertion with an overlong term"
+abbrev pub termFault : List ℕ → Fault
+termFault s = record { number = 17; table = 4; «record» = badTerm s }
 
 -- 16 and 17, of a sheet whose tables lie right
-unfoldable pub contentRefusal : List ℕ → ℕ
+unfoldable pub contentRefusal : List ℕ → Fault
 contentRefusal s =
-    unless 16 (eqb (badTable s) 5)
-    (unless 17 (eqb (badTerm s) (countOf s 4)) 0)
+    unless (recordFault s) (eqb (badTable s) 5)
+    (unless (termFault s) (eqb (badTerm s) (countOf s 4)) noFault)
 
--- 14 to 17, of a sheet with its mark and its total
-unfoldable pub tableRefusal : List ℕ → ℕ
+-- 14 to 17, of a sheet with its mark and its total; "141 is the bad length pair, after 14 and before 15"
+unfoldable pub tableRefusal : List ℕ → Fault
 tableRefusal s =
-    unless 14 (eqb (firstBad (countOk s) 5) 5)
-    (unless 14 (lengthsOk s)
-    (unless 15 (offsetsOk s)
+    unless (countFault s) (eqb (firstBad (countOk s) 5) 5)
+    (unless (plain 141) (lengthsOk s)
+    (unless (plain 15) (offsetsOk s)
     (contentRefusal s)))
 
 -- 10 to 17, by a call that reads the editions 1 to `last`
-unfoldable pub refusal : (last : ℕ) → List ℕ → ℕ
+unfoldable pub refusal : (last : ℕ) → List ℕ → Fault
 refusal last s =
-    unless 10 (leb 32 (length s))
-    (unless 11 (leb (length s) (sheetMost last))
-    (unless 12 (markOk last s)
-    (unless 13 (totalOk s)
+    unless (plain 10) (leb 32 (length s))
+    (unless (plain 11) (leb (length s) (sheetMost last))
+    (unless (plain 12) (markOk last s)
+    (unless (plain 13) (totalOk s)
     (tableRefusal s))))
 
 -- the last edition that the calls read
@@ -42,4 +72,4 @@ latest = 1
 
 -- "a sheet is accepted when none of 10 to 17 holds"
 abbrev pub Accepted : List ℕ → Type 0
-Accepted s = refusal latest s ≡ 0
+Accepted s = refusal latest s .number ≡ 0

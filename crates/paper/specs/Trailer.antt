@@ -74,7 +74,7 @@ totalOk s = leb (trailerSize (edition s)) (length s) && eqb (u32At s (length s -
 unfoldable pub countOk : List ℕ → ℕ → Bool
 countOk s t = leb (least t) (countOf s t) && leb (countOf s t) (most t)
 
--- 14: "shortest is at most longest; longest is at most 60"
+-- 141: "shortest is at most longest; longest is at most 60"
 unfoldable pub lengthsOk : List ℕ → Bool
 lengthsOk s = leb (shortest s) (longest s) && leb (longest s) limit
 

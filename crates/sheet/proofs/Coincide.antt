@@ -2,12 +2,10 @@
 -- Assumes nothing.
 use Prim.Native.Nat.{ℕ}
 use mathlib.Core.List.{List}
-use mathlib.Core.Path.{_≡_, sym, ap, _∙_}
+use mathlib.Core.Path.{_≡_, sym, _∙_}
 use Rattle.paper.specs.Promises.{Checks}
 use Rattle.sheet.specs.declared.Fault.{Fault}
+use Rattle.sheet.specs.Told.{told}
 
-abbrev faultOf : ℕ → Fault
-faultOf n = record { number = n }
-
-pub coincide : (s : List ℕ) (f g : Fault) → Checks s (f .number) → Checks s (g .number) → f ≡ g
-coincide s f g p q = ap faultOf (p ∙ sym q)
+pub coincide : (s : List ℕ) (f g : Fault) → Checks told s f → Checks told s g → f ≡ g
+coincide s f g p q = p ∙ sym q

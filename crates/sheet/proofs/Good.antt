@@ -13,7 +13,7 @@ use Rattle.paper.specs.Tests.{firstBad}
 use Rattle.paper.specs.Trailer.{edition, trailerSize, sheetMost, size, least, most, limit, shortest, longest, offsetOf, countOf, recordAt, countOk, lengthsOk, offsetsOk, markOk, totalOk}
 use Rattle.paper.specs.Sheet.{secondRun, assertionAt}
 use Rattle.paper.specs.Records.{letterOk, recordOk, badTable, termFits, assertFits, badTerm}
-use Rattle.paper.specs.Refusals.{unless, contentRefusal, tableRefusal, refusal}
+use Rattle.paper.specs.Refusals.{Fault, plain, countFault, recordFault, termFault, unless, contentRefusal, tableRefusal, refusal}
 use Rattle.paper.proofs.Tests.{and-left, and-right}
 use Rattle.sheet_trailer.specs.Placed.{Trailed, Laid}
 use Rattle.sheet_trailer.proofs.Search.{all-good}
@@ -23,14 +23,14 @@ use Rattle.sheet.specs.Good.{Good}
 
 -- ---- the tests that acceptance passes
 
-pass : (n : ℕ) (test : Bool) (later : ℕ) → 0 < n → unless n test later ≡ 0 → (test ≡ true) × (later ≡ 0)
-pass n true later p e = (refl, e)
-pass n false later p e = absurd (omega arith)
+pass : (f : Fault) (test : Bool) (later : Fault) → 0 < f .number → unless f test later .number ≡ 0 → (test ≡ true) × (later .number ≡ 0)
+pass f true later p e = (refl, e)
+pass f false later p e = absurd (omega arith)
 
 record Ends (last : ℕ) (s : List ℕ) : Type 0 where
   high : length s ≤ sheetMost last
   trailed : Trailed s
-  rest : tableRefusal s ≡ 0
+  rest : tableRefusal s .number ≡ 0
 
 record Tables (s : List ℕ) : Type 0 where
   counts : firstBad (countOk s) 5 ≡ 5
@@ -39,23 +39,23 @@ record Tables (s : List ℕ) : Type 0 where
   records : badTable s ≡ 5
   terms : badTerm s ≡ countOf s 4
 
-heads : (last : ℕ) (s : List ℕ) → refusal last s ≡ 0 → Ends last s
+heads : (last : ℕ) (s : List ℕ) → refusal last s .number ≡ 0 → Ends last s
 unfolding refusal totalOk
 heads last s e =
-    let a = pass 10 (leb 32 (length s)) _ (omega arith) e in
-    let b = pass 11 (leb (length s) (sheetMost last)) _ (omega arith) (a .1) in
-    let c = pass 12 (markOk last s) _ (omega arith) (b .1) in
-    let d = pass 13 (totalOk s) _ (omega arith) (c .1) in
+    let a = pass (plain 10) (leb 32 (length s)) _ (omega arith) e in
+    let b = pass (plain 11) (leb (length s) (sheetMost last)) _ (omega arith) (a .1) in
+    let c = pass (plain 12) (markOk last s) _ (omega arith) (b .1) in
+    let d = pass (plain 13) (totalOk s) _ (omega arith) (c .1) in
     record { high = leb-true _ _ (b .0); trailed = leb-true _ _ (and-left (leb (trailerSize (edition s)) (length s)) _ (d .0)); rest = d .1 }
 
-tails : (s : List ℕ) → tableRefusal s ≡ 0 → Tables s
+tails : (s : List ℕ) → tableRefusal s .number ≡ 0 → Tables s
 unfolding tableRefusal contentRefusal
 tails s e =
-    let a = pass 14 (eqb (firstBad (countOk s) 5) 5) _ (omega arith) e in
-    let b = pass 14 (lengthsOk s) _ (omega arith) (a .1) in
-    let c = pass 15 (offsetsOk s) _ (omega arith) (b .1) in
-    let d = pass 16 (eqb (badTable s) 5) _ (omega arith) (c .1) in
-    let f = pass 17 (eqb (badTerm s) (countOf s 4)) _ (omega arith) (d .1) in
+    let a = pass (countFault s) (eqb (firstBad (countOk s) 5) 5) _ (omega arith) e in
+    let b = pass (plain 141) (lengthsOk s) _ (omega arith) (a .1) in
+    let c = pass (plain 15) (offsetsOk s) _ (omega arith) (b .1) in
+    let d = pass (recordFault s) (eqb (badTable s) 5) _ (omega arith) (c .1) in
+    let f = pass (termFault s) (eqb (badTerm s) (countOf s 4)) _ (omega arith) (d .1) in
     record {
       counts = eqb-true _ _ (a .0);
       lengths = b .0;
@@ -64,7 +64,7 @@ tails s e =
       terms = eqb-true _ _ (f .0);
     }
 
-module _ (s : List ℕ) (e : tableRefusal s ≡ 0) where
+module _ (s : List ℕ) (e : tableRefusal s .number ≡ 0) where
   pair-ok : shortest s ≤ longest s
   unfolding lengthsOk
   pair-ok = leb-true _ _ (and-left (leb (shortest s) (longest s)) _ (tails s e .lengths))
@@ -97,7 +97,7 @@ terms-at : (s : List ℕ) (o : ℕ) → assertFits s o ≡ true → (termFits s 
 unfolding assertFits
 terms-at s o e = (and-left _ _ e, and-right (termFits s (assertionAt s o .term)) _ e)
 
-pub good : (last : ℕ) (s : List ℕ) → last < 10 → refusal last s ≡ 0 → Good s
+pub good : (last : ℕ) (s : List ℕ) → last < 10 → refusal last s .number ≡ 0 → Good s
 good last s n e =
     let h = heads last s e in
     let t = tails s (h .rest) in

@@ -5,11 +5,12 @@ ghost use Prim.Native.Nat.{_+_, _≤_, _<_};
 ghost use lib.Dec.{leb};
 ghost use lib.ListN.{length};
 ghost use Rattle.paper.specs.Bytes.{u8At};
-ghost use Rattle.paper.specs.Refusals.{contentRefusal, tableRefusal, refusal};
+ghost use Rattle.paper.specs.Refusals.{plain, contentRefusal, tableRefusal, refusal};
 ghost use Rattle.paper.specs.Promises.{Checks};
 ghost use Rattle.paper.specs.Sheet.{textOf, sheetOf, letter};
 ghost use Rattle.sheet_trailer.specs.Placed.{Trailed, Laid};
 ghost use Rattle.sheet_trailer.specs.Tables.{TableOf};
+ghost use Rattle.sheet.specs.Told.{told};
 ghost use Rattle.sheet.specs.Good.{Good};
 ghost use Rattle.sheet.specs.Readers.{RowRead, PartRead, AssertionRead};
 use sheet_contents::Assertion;
@@ -17,27 +18,45 @@ use sheet_contents::Part;
 use sheet_contents::Row;
 use sheet_trailer::Table;
 
-// A fault by the paper's number; 0 where there is none.
+// A fault by the paper's number, with the table and the record at fault; all 0 where there is none.
 pub struct Fault {
     pub number: u32,
+    pub table: u32,
+    pub record: u32,
 }
 
+// A fault that names no record.
 pub fn by_number(number: u32) -> Fault
-    ensures { λ r. ⌜ r .number ≡ number ⌝ }
+    ensures { λ r. ⌜ r ≡ told (plain number) ⌝ }
 {
-    Fault { number }
+    Fault {
+        number,
+        table: 0,
+        record: 0,
+    }
 }
 
 // 16 and 17, of a sheet whose tables lie right.
 fn check_content(s: &[u8]) -> Fault
     requires { ⌜ Laid (now s) ⌝ }
-    ensures { λ r. ⌜ r .number ≡ contentRefusal (now (s .entry)) ⌝ }
+    ensures { λ r. ⌜ r ≡ told (contentRefusal (now (s .entry))) ⌝ }
 {
-    if sheet_records::bad_table(s) != 5 {
-        return by_number(16);
+    let t = sheet_records::bad_table(s);
+    if t != 5 {
+        let i = sheet_records::bad_record(s, t);
+        return Fault {
+            number: 16,
+            table: t as u32,
+            record: i as u32,
+        };
     }
-    if sheet_records::terms::bad_term(s) != sheet_trailer::count_of(s, 4) {
-        return by_number(17);
+    let i = sheet_records::terms::bad_term(s);
+    if i != sheet_trailer::count_of(s, 4) {
+        return Fault {
+            number: 17,
+            table: 4,
+            record: i as u32,
+        };
     }
     by_number(0)
 }
@@ -45,13 +64,18 @@ fn check_content(s: &[u8]) -> Fault
 // 14 to 17, of a sheet with its mark and its total.
 fn check_tables(s: &[u8]) -> Fault
     requires { ⌜ Trailed (now s) ⌝ }
-    ensures { λ r. ⌜ r .number ≡ tableRefusal (now (s .entry)) ⌝ }
+    ensures { λ r. ⌜ r ≡ told (tableRefusal (now (s .entry))) ⌝ }
 {
-    if sheet_trailer::bad_count(s) != 5 {
-        return by_number(14);
+    let t = sheet_trailer::bad_count(s);
+    if t != 5 {
+        return Fault {
+            number: 14,
+            table: t as u32,
+            record: 0,
+        };
     }
     if !sheet_trailer::lengths_ok(s) {
-        return by_number(14);
+        return by_number(141);
     }
     if !sheet_trailer::offsets_ok(s) {
         return by_number(15);
@@ -62,7 +86,7 @@ fn check_tables(s: &[u8]) -> Fault
 // The first fault of any bytes, for a call that reads the editions 1 to `last`.
 pub fn first_fault(s: &[u8], last: usize) -> Fault
     requires { ⌜ last < 10 ⌝ }
-    ensures { λ r. ⌜ r .number ≡ refusal last (now (s .entry)) ⌝ }
+    ensures { λ r. ⌜ r ≡ told (refusal last (now (s .entry))) ⌝ }
 {
     if s.len() < 32 {
         return by_number(10);
@@ -84,7 +108,7 @@ pub const LATEST: usize = 1;
 
 // The first fault of any bytes.
 pub fn check(s: &[u8]) -> Fault
-    ensures { λ r. ⌜ Checks (now (s .entry)) (r .number) ⌝ }
+    ensures { λ r. ⌜ Checks told (now (s .entry)) r ⌝ }
 {
     first_fault(s, LATEST)
 }

@@ -36,9 +36,9 @@ fn record_ok(s: &[u8], t: usize, o: usize) -> bool
 }
 
 // The first bad record of table t, or its count.
-fn bad_record(s: &[u8], t: usize) -> usize
+pub fn bad_record(s: &[u8], t: usize) -> usize
     requires { ⌜ Laid (now s) × (t < 5) ⌝ }
-    ensures { λ r. ⌜ r ≡ badRecord (now (s .entry)) t ⌝ }
+    ensures { λ r. ⌜ (r ≡ badRecord (now (s .entry)) t) × (r < 65536) ⌝ }
 {
     let x = sheet_trailer::table_of(s, t);
     let step = sheet_trailer::SIZE[t];
@@ -59,7 +59,7 @@ fn bad_record(s: &[u8], t: usize) -> usize
 // The first table with a bad record, or 5.
 pub fn bad_table(s: &[u8]) -> usize
     requires { ⌜ Laid (now s) ⌝ }
-    ensures { λ r. ⌜ r ≡ badTable (now (s .entry)) ⌝ }
+    ensures { λ r. ⌜ (r ≡ badTable (now (s .entry))) × (r ≤ 5) ⌝ }
 {
     let mut t: usize = 0;
     while t < 5 {

@@ -62,7 +62,7 @@ fn assert_fits(s: &[u8], o: usize) -> bool
 // The first assertion with an overlong term, or their number.
 pub fn bad_term(s: &[u8]) -> usize
     requires { ⌜ Laid (now s) × (badTable (now s) ≡ 5) ⌝ }
-    ensures { λ r. ⌜ r ≡ badTerm (now (s .entry)) ⌝ }
+    ensures { λ r. ⌜ (r ≡ badTerm (now (s .entry))) × (r < 65536) ⌝ }
 {
     let x = sheet_trailer::table_of(s, 4);
     let n = x.count;

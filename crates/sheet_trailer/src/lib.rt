@@ -124,7 +124,7 @@ fn count_ok(s: &[u8], t: usize) -> bool
 // The first table whose count is outside its limits, or 5.
 pub fn bad_count(s: &[u8]) -> usize
     requires { ⌜ Trailed (now s) ⌝ }
-    ensures { λ r. ⌜ r ≡ firstBad (countOk (now (s .entry))) 5 ⌝ }
+    ensures { λ r. ⌜ (r ≡ firstBad (countOk (now (s .entry))) 5) × (r ≤ 5) ⌝ }
 {
     let mut t: usize = 0;
     while t < 5 {

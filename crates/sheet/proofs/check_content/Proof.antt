@@ -1,33 +1,35 @@
-use mathlib.Core.Path.{_≡_, sym, _∙_}
+use mathlib.Core.Path.{_≡_, sym, ap, _∙_}
 use borrow.Author.Tests.{eq-eqb, ne-eqb}
+use native.Mathlib.Omega.{arith}
 use Rattle.paper.specs.Refusals.{contentRefusal}
 use borrow.Author.Needs.{needs}
-use native.Mathlib.Omega.{arith}
 use Rattle.sheet.proofs.check_content.Statement.{statement}
 use Rattle.sheet.proofs.check_content.Tie as tie
 
 returns : tie.Need-returns
 unfolding contentRefusal
-returns c = rw (← c .before .before .bad-table .ensures, ne-eqb _ _ (c .before .if1 .taken)) (c .by-number .ensures)
+returns c = rw (← c .before .before .bad-table .ensures .0, ne-eqb _ _ (c .before .if1 .taken), ← c .bad-record .ensures .0)
 
 returns-2 : tie.Need-returns-2
 unfolding contentRefusal
-returns-2 c = rw (← c .before .before .before .before .before .bad-table .ensures, eq-eqb _ _ (c .before .before .before .before .if1 .left), ← c .before .before .before .bad-term .ensures, ← c .before .before .count-of .ensures .0, ne-eqb _ _ (c .before .if2 .taken)) (c .by-number2 .ensures)
+returns-2 c = rw (← c .before .before .before .before .bad-table .ensures .0, eq-eqb _ _ (c .before .before .before .if1 .left), ← c .before .before .bad-term .ensures .0, ← c .before .count-of .ensures .0, ne-eqb _ _ (c .if2 .taken))
 
 returns-3 : tie.Need-returns-3
 unfolding contentRefusal
-returns-3 c = rw (← c .before .before .before .before .before .bad-table .ensures, eq-eqb _ _ (c .before .before .before .before .if1 .left), ← c .before .before .before .bad-term .ensures, ← c .before .before .count-of .ensures .0, eq-eqb _ _ (c .before .if2 .left)) (c .by-number3 .ensures)
+returns-3 c = rw (← c .before .before .before .before .before .bad-table .ensures .0, eq-eqb _ _ (c .before .before .before .before .if1 .left), ← c .before .before .before .bad-term .ensures .0, ← c .before .before .count-of .ensures .0, eq-eqb _ _ (c .before .if2 .left)) (c .by-number .ensures)
 
 pub check-content-spec : {M : Type 1} → statement M
 check-content-spec =
     tie.close
     (tie.spec
     (λ c κs. search needs)
-    (λ c κs. search needs)
+    (λ c κs. (c .before .before .before .pre, omega (arith, c .before .bad-table .ensures .1)))
+    (λ c. search needs)
+    (λ c. search needs)
     returns
-    (λ c κs. (c .before .before .before .pre, sym (c .before .bad-table .ensures) ∙ c .if1 .left))
+    (λ c κs. (c .before .before .before .pre, sym (c .before .bad-table .ensures .0) ∙ c .if1 .left))
     (λ c κs. (c .before .before .before .before .pre .trailed, omega arith))
-    (λ c κs. search needs)
+    (λ c. search needs)
     returns-2
     (λ c κs. search needs)
     returns-3)

@@ -47,10 +47,10 @@ loop-again : tie.Need-loop-again Inv-loop μ-loop
 loop-again c = (more _ _ _ (c .before .before .before .loop .inv .0) (omega arith) (sym (judged (c .before)) ∙ c .if1 .taken), omega (arith, next (size (c .before .before .before .before .before .before .args .t)) (c .before .before .before .loop .i)))
 
 returns : tie.Need-returns Inv-loop μ-loop
-returns c = rw (← count (c .before .before .before .before)) (stop _ _ _ (c .before .before .before .loop .inv .0) (omega arith) (sym (judged (c .before)) ∙ c .if1 .left))
+returns c = (rw (← count (c .before .before .before .before)) (stop _ _ _ (c .before .before .before .loop .inv .0) (omega arith) (sym (judged (c .before)) ∙ c .if1 .left)), omega (arith, c .before .before .before .before .table-of .ensures .2))
 
 returns-2 : tie.Need-returns-2 Inv-loop μ-loop
-returns-2 c = rw (← count (c .before .before)) (done _ _ _ (c .before .loop .inv .0) (omega arith))
+returns-2 c = (rw (← count (c .before .before)) (done _ _ _ (c .before .loop .inv .0) (omega arith)), c .before .before .table-of .ensures .2)
 
 pub bad-record-spec : {M : Type 1} → statement M
 bad-record-spec =

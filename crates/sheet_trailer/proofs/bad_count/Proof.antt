@@ -17,7 +17,7 @@ loop-again : tie.Need-loop-again Inv-loop μ-loop
 loop-again c = more _ _ _ (c .before .before .before .loop .inv) (omega arith) (sym (c .before .count-ok .ensures) ∙ c .if1 .taken)
 
 returns : tie.Need-returns Inv-loop μ-loop
-returns c = stop _ _ _ (c .before .before .before .loop .inv) (omega arith) (sym (c .before .count-ok .ensures) ∙ c .if1 .left)
+returns c = (stop _ _ _ (c .before .before .before .loop .inv) (omega arith) (sym (c .before .count-ok .ensures) ∙ c .if1 .left), omega arith)
 
 pub bad-count-spec : {M : Type 1} → statement M
 bad-count-spec =
@@ -31,4 +31,4 @@ bad-count-spec =
     (λ c. omega arith)
     loop-again
     returns
-    (λ c. done _ _ _ (c .before .loop .inv) (omega arith)))
+    (λ c. (done _ _ _ (c .before .loop .inv) (omega arith), omega arith)))

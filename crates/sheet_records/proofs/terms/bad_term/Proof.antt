@@ -53,5 +53,5 @@ bad-term-spec =
     (λ c. omega arith)
     (λ c. omega arith)
     (λ c. more _ _ _ (c .before .before .before .loop .inv) (omega arith) (sym (judged (c .before)) ∙ c .if1 .taken))
-    (λ c. rw (← count (c .before .before .before .before)) (stop _ _ _ (c .before .before .before .loop .inv) (omega arith) (sym (judged (c .before)) ∙ c .if1 .left)))
-    (λ c. rw (← count (c .before .before)) (done _ _ _ (c .before .loop .inv) (omega arith))))
+    (λ c. (rw (← count (c .before .before .before .before)) (stop _ _ _ (c .before .before .before .loop .inv) (omega arith) (sym (judged (c .before)) ∙ c .if1 .left)), omega (arith, c .before .before .before .before .table-of .ensures .2)))
+    (λ c. (rw (← count (c .before .before)) (done _ _ _ (c .before .loop .inv) (omega arith)), c .before .before .table-of .ensures .2)))
