@@ -1,7 +1,7 @@
 // What a cell has from shorter spans, two at a time, and from the rows that it holds already.
 ghost use mathlib.Core.Path.{_≡_};
 ghost use mathlib.Core.Logic.{_≢_};
-ghost use Prim.Native.Nat.{_+_, _-_, _*_, _≤_, _<_};
+ghost use Prim.Native.Nat.{_+_, _-_, _≤_, _<_};
 ghost use lib.ListN.{length, getD};
 ghost use Rattle.workspace.specs.Spans.{spanAt};
 ghost use Rattle.groundwork.specs.Ground.{countAt};

@@ -3,15 +3,6 @@ use borrow.Author.Needs.{needs}
 use Rattle.chart_cells.proofs.Adding.{adds-put}
 use Rattle.chart_cells.proofs.put.Statement.{statement}
 use Rattle.chart_cells.proofs.put.Tie as tie
-use Rattle.chart_cells.proofs.put.Reads as reads
-use Rattle.chart_cells.proofs.put.Lts as lts
-use Rattle.workspace.proofs.put.Reads as put-reads
-
-put-requires : tie.Need-put-requires
-put-requires c κs = search needs
-
-same-length : tie.Need-same-length
-same-length c = search needs
 
 returns : tie.Need-returns
 returns c =
@@ -19,4 +10,4 @@ returns c =
     rw (c .before .before .put .ensures) (adds-put (a .work .now) (a .sp) (omega arith) (a .q) (omega arith) (omega arith) (a .on))
 
 pub put-spec : {M : Type 1} → statement M
-put-spec = tie.close (tie.spec put-requires same-length returns)
+put-spec = tie.close (tie.spec (λ c κs. search needs) (λ c. search needs) returns)
