@@ -11,6 +11,7 @@ use Rattle.paper.specs.Tests.{allBelow}
 use Rattle.list.proofs.group.Statement.{statement}
 use Rattle.list.proofs.group.Tie as tie
 
+-- the heads of the first r rows obey, and o is where the next one begins
 abbrev Inv-loop : tie.InvT-loop
 Inv-loop list t text m at rows o₀ r₀ o r =
     (r ≤ rows) × (o ≡ headAt list m r) × (o ≤ t .base) × (allBelow r (entryOk list text m) ≡ true)

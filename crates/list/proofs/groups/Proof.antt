@@ -11,6 +11,7 @@ use Rattle.paper.specs.Tests.{allBelow}
 use Rattle.list.proofs.groups.Statement.{statement}
 use Rattle.list.proofs.groups.Tie as tie
 
+-- the first m groups obey and meet, and `at` is where the next one begins
 abbrev Inv-loop : tie.InvT-loop
 Inv-loop list t text n base at₀ m₀ at m =
     (m ≤ n + 1) × (at ≡ groupBegin list m) × (at ≤ base) × (allBelow m (groupOk list text) ≡ true)

@@ -9,6 +9,7 @@ use Rattle.paper.specs.Tests.{allBelow}
 use Rattle.list.proofs.options_ok.Statement.{statement}
 use Rattle.list.proofs.options_ok.Tie as tie
 
+-- the first j options obey
 abbrev Inv-loop : tie.InvT-loop
 Inv-loop list t text m o count j₀ j =
     (j ≤ count) × (allBelow j (optionFrom list text m o) ≡ true)

@@ -10,9 +10,6 @@ unfolding wellFormed
 returns c =
     rw (lt-leb _ _ (c .if1 .taken))
 
-trailer-ok-requires : tie.Need-trailer-ok-requires
-trailer-ok-requires c κs = search needs
-
 returns-2 : tie.Need-returns-2
 unfolding wellFormed
 returns-2 c =
@@ -22,9 +19,6 @@ trailer-of-requires : tie.Need-trailer-of-requires
 trailer-of-requires c κs =
     (search needs, sym (c .before .trailer-ok .ensures) ∙ not-false (c .before .trailer-ok .result) (c .if2 .left))
 
-groups-requires : tie.Need-groups-requires
-groups-requires c κs = search needs
-
 returns-3 : tie.Need-returns-3
 unfolding wellFormed
 returns-3 c =
@@ -33,4 +27,4 @@ returns-3 c =
 pub well-formed-spec : {M : Type 1} → statement M
 well-formed-spec =
     tie.close
-    (tie.spec returns trailer-ok-requires returns-2 trailer-of-requires groups-requires returns-3)
+    (tie.spec returns (λ c κs. search needs) returns-2 trailer-of-requires (λ c κs. search needs) returns-3)
