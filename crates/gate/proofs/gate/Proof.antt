@@ -16,9 +16,6 @@ well p = sym (p .before .well-formed .ensures) ∙ not-false (p .before .well-fo
 fit : (p : tie.Else2) → length (p .before .before .before .before .before .before .before .before .args .word .now) ≡ nOf (p .before .before .before .before .before .before .before .before .args .list .now)
 fit p = omega (arith, p .before .trailer-of .ensures .length-is)
 
-well-formed-requires : tie.Need-well-formed-requires
-well-formed-requires c κs = search needs
-
 returns : tie.Need-returns
 unfolding gateSays gateLeaves
 returns c =
@@ -43,16 +40,10 @@ read-requires : tie.Need-read-requires
 read-requires c κs =
     record { formed = well (c .before .before .before .before); fit = fit (c .before .before); room = omega arith }
 
-same-length : tie.Need-same-length
-same-length c = search needs
-
 returns-4 : tie.Need-returns-4
 unfolding gateSays gateLeaves words
 returns-4 c =
     (rw (well (c .before .before .before .before .before .before .before .before), eq-eqb _ _ (fit (c .before .before .before .before .before .before)), le-leb _ _ (c .before .before .before .before .before .if3 .left), ← c .before .before .before .read .ensures .0, c .if4 .taken), c .before .before .before .read .ensures .1)
-
-same-length-2 : tie.Need-same-length-2
-same-length-2 c = search needs
 
 returns-5 : tie.Need-returns-5
 unfolding gateSays gateLeaves words
@@ -63,13 +54,13 @@ pub gate-spec : {M : Type 1} → statement M
 gate-spec =
     tie.close
     (tie.spec
-    well-formed-requires
+    (λ c κs. search needs)
     returns
     trailer-of-requires
     returns-2
     returns-3
     read-requires
-    same-length
+    (λ c. search needs)
     returns-4
-    same-length-2
+    (λ c. search needs)
     returns-5)

@@ -10,6 +10,7 @@ use Rattle.paper.specs.Gate.{headEnd, headAt}
 use Rattle.gate.proofs.marks.mark_group.Statement.{statement}
 use Rattle.gate.proofs.marks.mark_group.Tie as tie
 
+-- the heads of the first r rows are marked, and o is where the next one begins
 abbrev Inv-loop : tie.InvT-loop
 Inv-loop list text word work₀ rows m at o₀ r₀ work o r =
     (r ≤ rows) × (o ≡ headAt list m r) × (work ≡ inTurn r (markHead list text word m) work₀) × (length work ≡ length work₀)

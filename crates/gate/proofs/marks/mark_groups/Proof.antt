@@ -11,6 +11,7 @@ use Rattle.paper.specs.Gate.{headAt, groupBegin}
 use Rattle.gate.proofs.marks.mark_groups.Statement.{statement}
 use Rattle.gate.proofs.marks.mark_groups.Tie as tie
 
+-- the first m groups are marked, and `at` is where the next one begins
 abbrev Inv-loop : tie.InvT-loop
 Inv-loop list text word work₀ rows at₀ m₀ work at m =
     (m ≤ length word + 1) × (at ≡ groupBegin list m) × (work ≡ inTurn m (markGroup list text word) work₀) × (length work ≡ length work₀)

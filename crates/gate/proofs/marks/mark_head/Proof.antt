@@ -13,6 +13,7 @@ use Rattle.paper.specs.Gate.{headEnd, optionCount}
 use Rattle.gate.proofs.marks.mark_head.Statement.{statement}
 use Rattle.gate.proofs.marks.mark_head.Tie as tie
 
+-- the first j options are marked
 abbrev Inv-loop : tie.InvT-loop
 Inv-loop list text word work₀ m r o count j₀ work j =
     (j ≤ count) × (work ≡ inTurn j (markAt list text word m r) work₀) × (length work ≡ length work₀)

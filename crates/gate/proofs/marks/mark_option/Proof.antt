@@ -9,6 +9,7 @@ use Rattle.list.specs.Read.{optionOf}
 use Rattle.gate.proofs.marks.mark_option.Statement.{statement}
 use Rattle.gate.proofs.marks.mark_option.Tie as tie
 
+-- the option is marked at the first i starts
 abbrev Inv-loop : tie.InvT-loop
 Inv-loop text word work₀ x m r i₀ work i =
     (i + m ≤ length word + 1) × (work ≡ inTurn i (markStart text word m r (optionOf x)) work₀) × (length work ≡ length work₀)

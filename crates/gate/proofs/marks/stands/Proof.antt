@@ -7,6 +7,7 @@ use Rattle.gate.proofs.Holding.{stands-yes, stands-no}
 use Rattle.gate.proofs.marks.stands.Statement.{statement}
 use Rattle.gate.proofs.marks.stands.Tie as tie
 
+-- the first j bytes of the part stand in the word
 abbrev Inv-loop : tie.InvT-loop
 Inv-loop part word i j₀ j =
     (j ≤ length part) × ((p : ℕ) → p < j → getD part p 0 ≡ getD word (i + p) 0)
