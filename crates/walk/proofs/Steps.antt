@@ -19,11 +19,6 @@ span a b c o h l =
     let z : (b - a) + (c - b) ≡ c - a = omega arith in
     sym (plus-plus (b - a) (c - b) o) ∙ rw z
 
-span-none : (a b c : ℕ) → a ≤ b → b ≤ c → plus (b - a) (plus (c - b) (none 0)) ≡ none (c - a)
-span-none a b c h l =
-    let z : (b - a) + (c - b) ≡ c - a = omega arith in
-    rw (add-zero, z)
-
 module _ (is : ℕ → Bool) (opens : ℕ → List ℕ → Bool) where
   -- the parts before the place k do not see it, nor the mark behind it
   parts-set : (n k : ℕ) (w s : List ℕ) (c x : ℕ) → Parts is opens n k w s → Parts is opens n k (set w k c) (set s (suc k) x)
