@@ -2,6 +2,7 @@
 use mathlib.Core.Path.{_≡_}
 use native.Mathlib.Omega.{arith}
 use lib.ListN.{length}
+use Rattle.walk.proofs.Frames.{frame-start}
 use Rattle.walk.proofs.Advances.{adv-down, adv-stuck, adv-shut}
 use borrow.Author.Needs.{needs}
 use Rattle.walk.proofs.advance.Statement.{statement}
@@ -38,7 +39,7 @@ returns c =
     let a = c .before .before .before .before .before .before .before .before .before .before in
     let h = a .pre .2 (c .before .before .before .before .before .before .before .if1 .taken) in
     rw (c .before .before .before .fresh .ensures, c .down .ensures, c .before .before .before .before .before .before .before .before .counted .ensures, c .before .before .before .before .before .before .before .if1 .taken)
-    (adv-down _ _ (a .args .budget) (a .args .n) (a .args .q) _ (omega arith) (omega arith) (omega arith) (a .pre .4) _ (long a) (marked a) (omega arith) (a .pre .6) h (c .before .before .before .before .before .before .first-from .ensures) (c .before .before .before .before .before .if2 .taken))
+    (adv-down _ _ (a .args .budget) (a .args .n) (a .args .q) _ (omega arith) (omega arith) (omega arith) (a .pre .4) _ (frame-start _ _ (omega arith) (long a) (marked a) (omega arith) (a .pre .5)) (omega arith) (a .pre .6) h (c .before .before .before .before .before .before .first-from .ensures) (c .before .before .before .before .before .if2 .taken))
 
 returns-2 : tie.Need-returns-2
 returns-2 c =

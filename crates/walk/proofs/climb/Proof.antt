@@ -4,6 +4,7 @@ use native.Mathlib.Omega.{arith}
 use borrow.Author.Needs.{needs}
 use Rattle.state.specs.Letters.{hasLetter, First}
 use Rattle.state.specs.Moves.{lastOf}
+use Rattle.walk.proofs.Frames.{frame-start}
 use Rattle.walk.proofs.Climbs.{Climbing, climb-start, climb-note, climb-skip, climb-over, climb-next, climb-back, climb-end, toGo, skip-less, back-less}
 use Rattle.walk.proofs.climb.Statement.{statement}
 use Rattle.walk.proofs.climb.Tie as tie
@@ -26,24 +27,24 @@ noted : (c : tie.After-recall Inv-loop μ-loop) → Climbing (hasLetter (c .befo
 noted c = rw (c .recall .ensures .0) (climb-note _ _ _ _ _ (c .before .before .before .before .before .before .before .loop .q) (c .before .before .before .before .before .before .before .loop .counts) (c .before .before .before .before .before .before .before .loop .inv) (c .before .before .before .before .before .if1 .taken) (low (c .before .before .before)))
 
 loop-holds : tie.Need-loop-holds Inv-loop μ-loop
-loop-holds c = climb-start _ _ _ _ _ (omega arith) (search needs) (search needs) (omega arith) (omega arith) (c .before .pre .2) (c .before .pre .3) (c .before .pre .4)
+loop-holds c = climb-start _ _ _ _ _ (frame-start _ _ (omega arith) (search needs) (search needs) (omega arith) (c .before .pre .3)) (omega arith) (c .before .pre .2) (c .before .pre .4)
 
 recall-requires : tie.Need-recall-requires Inv-loop μ-loop
 recall-requires c κs =
     let i = c .before .before .before .before .before .before .loop .inv in
-    (omega arith, omega arith, omega arith, i .marks, i .small, omega arith)
+    (omega arith, omega arith, omega arith, i .frame .marks, i .small, omega arith)
 
 sub-if4 : tie.Need-sub-if4 Inv-loop μ-loop
-sub-if4 c = c .before .before .before .before .before .before .before .before .before .before .before .loop .inv .most
+sub-if4 c = c .before .before .before .before .before .before .before .before .before .before .before .loop .inv .frame .most
 
 returns : tie.Need-returns Inv-loop μ-loop
 returns c = rw (c .passed .ensures) (climb-over _ _ _ _ _ (c .before .before .before .before .before .before .before .before .before .before .before .before .before .loop .q) _ (noted (c .before .before .before .before .before .before)) (c .before .before .before .before .before .before .before .before .before .before .before .if1 .taken) _ (first (c .before .before .before .before .before .before .before .before .before)) (c .before .before .before .before .before .before .before .before .if2 .taken) (c .before .before .before .before .before .before .recall .result) (c .before .before .before .before .before .before .recall .ensures .1) (c .before .before .before .if3 .taken) (c .before .if4 .taken))
 
 counted-requires : tie.Need-counted-requires Inv-loop μ-loop
-counted-requires c κs = rw (c .next .ensures) (omega (arith, c .before .before .before .before .before .before .before .before .before .before .before .before .before .loop .inv .most, c .before .if4 .left, c .before .before .before .before .before .before .before .before .before .before .before .before .before .before .before .fits .budget))
+counted-requires c κs = rw (c .next .ensures) (omega (arith, c .before .before .before .before .before .before .before .before .before .before .before .before .before .loop .inv .frame .most, c .before .if4 .left, c .before .before .before .before .before .before .before .before .before .before .before .before .before .before .before .fits .budget))
 
 loop-less : tie.Need-loop-less Inv-loop μ-loop
-loop-less c = rw (c .counted .ensures, c .before .next .ensures) (skip-less (c .before .before .before .before .before .before .before .before .before .before .before .before .before .before .loop .q) (c .before .before .before .before .before .before .before .before .before .before .first-from .result) (c .before .before .before .before .before .before .before .recall .result) (c .before .before .before .before .before .before .before .before .before .before .before .before .if1 .taken) (omega (arith, c .before .before .before .before .before .before .before .before .before .before .before .before .before .before .loop .inv .shorter, c .before .before .before .before .before .before .before .before .before .before .before .before .before .before .loop .inv .room)) (c .before .before .before .before .before .before .before .before .before .before .before .before .before .before .loop .inv .letters) (omega (arith, first (c .before .before .before .before .before .before .before .before .before .before) .low)) (c .before .before .before .before .before .before .before .before .before .if2 .taken))
+loop-less c = rw (c .counted .ensures, c .before .next .ensures) (skip-less (c .before .before .before .before .before .before .before .before .before .before .before .before .before .before .loop .q) (c .before .before .before .before .before .before .before .before .before .before .first-from .result) (c .before .before .before .before .before .before .before .recall .result) (c .before .before .before .before .before .before .before .before .before .before .before .before .if1 .taken) (omega (arith, c .before .before .before .before .before .before .before .before .before .before .before .before .before .before .loop .inv .shorter, c .before .before .before .before .before .before .before .before .before .before .before .before .before .before .loop .inv .frame .short)) (c .before .before .before .before .before .before .before .before .before .before .before .before .before .before .loop .inv .frame .letters) (omega (arith, first (c .before .before .before .before .before .before .before .before .before .before) .low)) (c .before .before .before .before .before .before .before .before .before .if2 .taken))
 
 loop-again : tie.Need-loop-again Inv-loop μ-loop
 loop-again c = rw (c .counted .ensures, c .before .next .ensures) (climb-skip _ _ _ _ _ (c .before .before .before .before .before .before .before .before .before .before .before .before .before .before .loop .q) _ (noted (c .before .before .before .before .before .before .before)) (c .before .before .before .before .before .before .before .before .before .before .before .before .if1 .taken) _ (first (c .before .before .before .before .before .before .before .before .before .before)) (c .before .before .before .before .before .before .before .before .before .if2 .taken) (c .before .before .before .before .before .before .before .recall .result) (c .before .before .before .before .before .before .before .recall .ensures .1) (c .before .before .before .before .if3 .taken) (c .before .before .if4 .left))
