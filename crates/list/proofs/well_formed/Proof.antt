@@ -16,8 +16,7 @@ returns-2 c =
     rw (le-leb _ _ (c .before .before .if1 .left), ← c .before .trailer-ok .ensures, not-true (c .before .trailer-ok .result) (c .if2 .taken))
 
 trailer-of-requires : tie.Need-trailer-of-requires
-trailer-of-requires c κs =
-    (search needs, sym (c .before .trailer-ok .ensures) ∙ not-false (c .before .trailer-ok .result) (c .if2 .left))
+trailer-of-requires c κs = (search needs, sym (c .before .trailer-ok .ensures) ∙ not-false (c .before .trailer-ok .result) (c .if2 .left))
 
 returns-3 : tie.Need-returns-3
 unfolding wellFormed

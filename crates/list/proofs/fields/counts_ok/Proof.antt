@@ -4,12 +4,10 @@ use Rattle.list.proofs.fields.counts_ok.Statement.{statement}
 use Rattle.list.proofs.fields.counts_ok.Tie as tie
 
 returns : tie.Need-returns
-returns c =
-    rw (← c .before .wide .ensures .0, lt-leb _ _ (c .if1 .taken))
+returns c = rw (← c .before .wide .ensures .0, lt-leb _ _ (c .if1 .taken))
 
 returns-2 : tie.Need-returns-2
-returns-2 c =
-    rw (← c .before .before .wide .ensures .0, le-leb _ _ (c .before .if1 .left), lt-leb _ _ (c .if2 .taken))
+returns-2 c = rw (← c .before .before .wide .ensures .0, le-leb _ _ (c .before .if1 .left), lt-leb _ _ (c .if2 .taken))
 
 returns-3 : tie.Need-returns-3
 returns-3 c =

@@ -11,10 +11,6 @@ use Rattle.list.proofs.fields.trailer_of.Tie as tie
 known : (p : tie.Start) → Trailer (p .args .list .now)
 known p = trailer-of _ (p .pre .1)
 
-sub-t10 : tie.Need-sub-t10
-sub-t10 c =
-    omega (arith, known (c .before .before .before .before .before))
-
 returns : tie.Need-returns
 unfolding trailerOf
 returns c =
@@ -47,5 +43,5 @@ trailer-of-spec =
     (λ c κs. search needs)
     (λ c. search needs)
     (λ c. search needs)
-    sub-t10
+    (λ c. omega (arith, known (c .before .before .before .before .before)))
     returns)
