@@ -21,10 +21,6 @@ unfolding gateSays gateLeaves
 returns c =
     (rw (← c .before .well-formed .ensures, not-true (c .before .well-formed .result) (c .if1 .taken)), refl)
 
-trailer-of-requires : tie.Need-trailer-of-requires
-trailer-of-requires c κs =
-    right-trailer _ _ (well c)
-
 returns-2 : tie.Need-returns-2
 unfolding gateSays gateLeaves
 returns-2 c =
@@ -37,8 +33,7 @@ returns-3 c =
     (rw (well (c .before .before .before), eq-eqb _ _ (fit (c .before)), lt-leb _ _ (c .if3 .taken)), refl)
 
 read-requires : tie.Need-read-requires
-read-requires c κs =
-    record { formed = well (c .before .before .before .before); fit = fit (c .before .before); room = omega arith }
+read-requires c κs = record { formed = well (c .before .before .before .before); fit = fit (c .before .before); room = omega arith }
 
 returns-4 : tie.Need-returns-4
 unfolding gateSays gateLeaves words
@@ -56,7 +51,7 @@ gate-spec =
     (tie.spec
     (λ c κs. search needs)
     returns
-    trailer-of-requires
+    (λ c κs. right-trailer _ _ (well c))
     returns-2
     returns-3
     read-requires

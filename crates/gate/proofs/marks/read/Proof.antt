@@ -8,10 +8,6 @@ use borrow.Author.Needs.{needs}
 use Rattle.gate.proofs.marks.read.Statement.{statement}
 use Rattle.gate.proofs.marks.read.Tie as tie
 
-trailer-of-requires : tie.Need-trailer-of-requires
-trailer-of-requires c κs =
-    right-trailer _ _ (c .before .before .before .before .pre .formed)
-
 mark-groups-requires : tie.Need-mark-groups-requires
 mark-groups-requires c κs =
     (record { formed = c .before .before .before .before .before .before .before .before .before .before .pre .formed; fit = c .before .before .before .before .before .before .before .before .before .before .pre .fit; room = omega (arith, c .before .before .before .clear .kept .0, c .before .before .before .before .before .before .before .before .before .before .pre .room) }, c .before .before .before .before .before .trailer-of .ensures .rows-are)
@@ -28,7 +24,7 @@ pub read-spec : {M : Type 1} → statement M
 read-spec =
     tie.close
     (tie.spec
-    trailer-of-requires
+    (λ c κs. right-trailer _ _ (c .before .before .before .before .pre .formed))
     (λ c κs. search needs)
     mark-groups-requires
     (λ c κs. search needs)
