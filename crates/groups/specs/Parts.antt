@@ -11,9 +11,9 @@ pub record Put (x : List ℕ) (o : ℕ) (old now : List ℕ) (end : ℕ) : Type 
   pub bytes : now ≡ sets old o x
   pub stop : end ≡ o + length x
 
--- an option's fields
-unfoldable pub optionFields : (kind k a b : ℕ) → List ℕ
-optionFields kind k a b = kind ∷ k ∷ u16 a ++ u16 b ++ u16 0
+-- the 8 bytes of an option with these fields
+unfoldable pub fieldBytes : (kind k a b : ℕ) → List ℕ
+fieldBytes kind k a b = kind ∷ k ∷ u16 a ++ u16 b ++ u16 0
 
 -- the four bytes `CUT1`
 unfoldable pub mark : List ℕ

@@ -4,7 +4,7 @@ ghost use Prim.Native.Nat.{_+_, _≤_};
 ghost use lib.ListN.{length};
 ghost use Rattle.paper.specs.Bytes.{u16, u32};
 ghost use Rattle.paper.specs.Cuts.{headBytes};
-ghost use Rattle.groups.specs.Parts.{Put, optionFields, «mark»};
+ghost use Rattle.groups.specs.Parts.{Put, fieldBytes, «mark»};
 
 // Two bytes at o.
 pub fn put_pair(list: &mut [u8], o: usize, x: u8, y: u8) -> usize
@@ -44,7 +44,7 @@ pub struct OptionFields {
 // An option at o.
 pub fn put_option(list: &mut [u8], o: usize, x: OptionFields) -> usize
     requires { ⌜ o + 8 ≤ length (now list) ⌝ }
-    ensures { λ r. ⌜ Put (optionFields (x .kind) (x .k) (x .a) (x .b)) o (now (list .entry)) (now (list .exit)) r ⌝ }
+    ensures { λ r. ⌜ Put (fieldBytes (x .kind) (x .k) (x .a) (x .b)) o (now (list .entry)) (now (list .exit)) r ⌝ }
 {
     let p = put_pair(list, o, x.kind, x.k);
     let a = put_u16(list, p, x.a);

@@ -2,17 +2,13 @@
 -- "reaches". A set is a list of R tests, so that each round is computed once.
 -- Assumes nothing.
 use Prim.Native.Nat.{ℕ, zero, suc, _+_, _≤_, _<_, zero-le}
-use mathlib.Core.Path.{_≡_, refl, sym, ap, _∙_, subst}
+use mathlib.Core.Path.{_≡_, refl, sym, _∙_}
 use mathlib.Core.Bool.{Bool, true, false, cond, true≢false}
-use mathlib.Core.Logic.{_↔_, _⊎_, inl, inr, _≢_}
-use mathlib.Core.List.{List, [], _∷_}
+use mathlib.Core.Logic.{_⊎_, inl, inr}
 use native.Mathlib.Omega.{arith}
-use native.Mathlib.Decide.{ℕ-discrete}
 use native.Mathlib.Nat.{not-suc-le-zero, eq-or-lt-of-le, le-of-suc-le-suc, le-refl, add-zero, add-suc, suc-add, zero-add}
-use lib.ListN.{getD}
 use Rattle.paper.specs.Tests.{tableFrom}
 use Rattle.paper.specs.Decide.{has, rounds, closure}
-use Rattle.paper.proofs.Tests.{same-test}
 
 abbrev pub Below : (ℕ → Bool) → (ℕ → Bool) → Type 0
 Below s t = (j : ℕ) → s j ≡ true → t j ≡ true
@@ -161,71 +157,3 @@ pub closure-least : (R : ℕ) (rule : (ℕ → Bool) → ℕ → Bool) (P : ℕ 
     → (k : ℕ) → has (closure R rule) k ≡ true → P k
 unfolding closure
 closure-least R rule P keeps k e = rounds-least R rule P keeps R k e
-
--- ---- for a program that finds a closure in place: R passes, each over the numbers 0 to R - 1, each of which is put in where the rule asks for it of the set at hand
-
-module _ (R : ℕ) (rule : (ℕ → Bool) → ℕ → Bool) where
-  -- a pass from the set `old` has come to r and to the set `now`
-  pub record Pass (r : ℕ) (old now : ℕ → Bool) : Type 0 where
-    pub keeps : Below old now
-    pub adds : (k : ℕ) → k < r → rule old k ≡ true → now k ≡ true
-    pub sound : Below old (has (closure R rule)) → Below now (has (closure R rule))
-
-  -- after n passes: at least what n rounds give, at most the closure
-  pub record Between (n : ℕ) (s : ℕ → Bool) : Type 0 where
-    pub above : Below (has (rounds R rule n)) s
-    pub below : Below s (has (closure R rule))
-
-  pub pass-start : (s : ℕ → Bool) → Pass 0 s s
-  pass-start s = record { keeps = λ j e. e; adds = λ k l e. absurd (not-suc-le-zero l); sound = λ h. h }
-
-  pub between-start : (s : ℕ → Bool) → ((k : ℕ) → s k ≡ false) → Between 0 s
-  unfolding rounds
-  between-start s h = record { above = λ j e. absurd (true≢false (sym e)); below = λ j e. absurd (true≢false (sym e ∙ h j)) }
-
-  module _ (mono : Monotone rule) where
-    -- the rule asks for r: it is put in, and nothing else changes
-    pub pass-yes : (r : ℕ) (old now next : ℕ → Bool) → Pass r old now → r < R → rule now r ≡ true → next r ≡ true → ((k : ℕ) → k ≢ r → next k ≡ now k) → Pass (suc r) old next
-    pass-yes r old now next p l e y same = record {
-      keeps = λ k h. up k (p .keeps k h);
-      adds = λ k h q. add k (eq-or-lt-of-le (le-of-suc-le-suc h)) q;
-      sound = λ h k q. in-closure h k q (ℕ-discrete k r);
-    }
-      where
-        at : (k : ℕ) → now k ≡ true → Dec (k ≡ r) → next k ≡ true
-        at k h (yes q) = rw q y
-        at k h (no q) = same k q ∙ h
-
-        up : (k : ℕ) → now k ≡ true → next k ≡ true
-        up k h = at k h (ℕ-discrete k r)
-
-        add : (k : ℕ) → (k ≡ r) ⊎ (k < r) → rule old k ≡ true → next k ≡ true
-        add k (inl q) h = rw q y
-        add k (inr m) h = up k (p .adds k m h)
-
-        in-closure : Below old (has (closure R rule)) → (k : ℕ) → next k ≡ true → Dec (k ≡ r) → has (closure R rule) k ≡ true
-        in-closure h k z (yes q) = rw q (closure-closed R rule mono r l (mono now (has (closure R rule)) (p .sound h) r e))
-        in-closure h k z (no q) = p .sound h k (sym (same k q) ∙ z)
-
-    -- the rule does not ask for r
-    pub pass-no : (r : ℕ) (old now : ℕ → Bool) → Pass r old now → rule now r ≡ false → Pass (suc r) old now
-    pass-no r old now p e = record { keeps = p .keeps; adds = λ k h q. add k (eq-or-lt-of-le (le-of-suc-le-suc h)) q; sound = p .sound }
-      where
-        add : (k : ℕ) → (k ≡ r) ⊎ (k < r) → rule old k ≡ true → now k ≡ true
-        add k (inl q) h = absurd (true≢false (sym (mono old now (p .keeps) r (rw q at h)) ∙ e))
-        add k (inr m) h = p .adds k m h
-
-    pub between-next : (n : ℕ) (old now : ℕ → Bool) → Between n old → Pass R old now → Between (suc n) now
-    between-next n old now b p = record {
-      above = λ k e. let r = round-elim R rule n k e in p .adds k (r .0) (mono (has (rounds R rule n)) old (b .above) k (r .1));
-      below = p .sound (b .below);
-    }
-
-    -- R passes are enough
-    pub between-done : (s : ℕ → Bool) → Between R s → (k : ℕ) → s k ≡ has (closure R rule) k
-    unfolding closure
-    between-done s b k = same-test (s k) (has (rounds R rule R) k) (b .below k) (b .above k)
-
-    -- or a pass that changed nothing
-    pub between-still : (n : ℕ) (s : ℕ → Bool) → Between n s → Pass R s s → (k : ℕ) → s k ≡ has (closure R rule) k
-    between-still n s b p k = same-test (s k) (has (closure R rule) k) (b .below k) (λ e. closure-least R rule (λ j. s j ≡ true) (λ t h j l q. p .adds j l (mono t s h j q)) k e)

@@ -12,8 +12,8 @@ use lib.ListN.{length, getD, take, drop, length-append}
 use lib.Seq.{ext-getD, drop-cons}
 use Rattle.paper.proofs.Tests.{any-intro, any-elim, and-intro, and-left, and-right, and-assoc, same-test, eqb-same, same-eqb}
 use Rattle.paper.specs.Rows.{Row, Empty, Range, Text, Alt, Seq, Star, Grammar, row, stretch, Derives, Keeps, Reach}
-use Rattle.paper.specs.Decide.{exactly, someIn, carried, reaches, Pattern, fits, Test, split, ownRow, level, upTo, accepts}
-use Rattle.paper.proofs.Reaching.{derives-below, nullable-sound, nullable-from, reaches-sound, reaches-from, carried-any, reach-derives}
+use Rattle.paper.specs.Decide.{exactly, someIn, reaches, Pattern, fits, Test, split, ownRow, level, upTo, accepts}
+use Rattle.paper.proofs.Reaching.{derives-below, nullable-sound, nullable-from, reaches-sound, reaches-from, reach-derives}
 
 -- ---- a derivation of a word that is not empty comes from a row that is reached and takes bytes itself
 
@@ -183,11 +183,6 @@ module _ (g : Grammar) (pat : Pattern) where
       let a = accepts-right m i r in
       let b = level-right (accepts g pat) m (λ k l. accepts-right k) i r in
       same-test _ _ (λ e. b .1 (a .0 e)) (λ e. a .1 (b .0 e))
-
--- a length as a program finds it: what each row does by itself, carried back along the steps
-pub level-carried : (g : Grammar) (pat : Pattern) (acc : Test) (m i r : ℕ) → level g pat acc (suc m) i r ≡ carried g (λ q. ownRow g pat acc q (row g q) (suc m) i) r
-unfolding level
-level-carried g pat acc m i r = sym (carried-any g (λ q. ownRow g pat acc q (row g q) (suc m) i) r)
 
 -- "fits" by the places
 pub fits-at : (pat : Pattern) (i : ℕ) (w : List ℕ) → fits pat i w ≡ true → (p : ℕ) → p < length w → pat (i + p) (getD w p 0) ≡ true

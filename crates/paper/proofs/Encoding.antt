@@ -29,9 +29,6 @@ stands-at {l = l} {s = s} p e h = subst (λ (k : ℕ). Stands l k s) e h
 pub stands-all : (l : List ℕ) → Stands l 0 l
 stands-all l = record { rest = []; same = sym (append-nil l) }
 
-pub stands-after : (x s y : List ℕ) → Stands (x ++ (s ++ y)) (length x) s
-stands-after x s y = record { rest = y; same = drop-append-seam x (s ++ y) }
-
 pub stands-head : {l : List ℕ} {o : ℕ} (s t : List ℕ) → Stands l o (s ++ t) → Stands l o s
 stands-head s t h = record { rest = t ++ h .rest; same = h .same ∙ append-assoc s t (h .rest) }
 
@@ -67,12 +64,6 @@ stands-u32 {l = l} {o = o} n b h =
     let low = stands-head (u16 (n % 65536)) (u16 (n / 65536)) h in
     let high : Stands l (o + 2) (u16 (n / 65536)) = rw length-u16 at (stands-tail (u16 (n % 65536)) (u16 (n / 65536)) h) in
     rw (stands-u16 (n % 65536) (mod-lt n (omega arith)) low, stands-u16 (n / 65536) d high) (mod-add-div n 65536)
-
-pub u16-written : (x : List ℕ) (n : ℕ) (y : List ℕ) → n < 65536 → u16At (x ++ (u16 n ++ y)) (length x) ≡ n
-u16-written x n y b = stands-u16 n b (stands-after x (u16 n) y)
-
-pub u32-written : (x : List ℕ) (n : ℕ) (y : List ℕ) → n < 4294967296 → u32At (x ++ (u32 n ++ y)) (length x) ≡ n
-u32-written x n y b = stands-u32 n b (stands-after x (u32 n) y)
 
 -- ---- the four bytes of a mark
 

@@ -1,27 +1,21 @@
 -- What the judgement, the walk and the answer mean. The statements are complete; their proofs lie in the files cited.
 -- Assumes nothing.
-use Prim.Native.Nat.{ℕ, _+_, _≤_, _<_}
+use Prim.Native.Nat.{ℕ, _≤_, _<_}
 use mathlib.Core.Path.{_≡_, refl, sym, _∙_}
-use mathlib.Core.Bool.{Bool, true, _&&_}
+use mathlib.Core.Bool.{true}
 use mathlib.Core.Logic.{_↔_, _⊎_, inl, inr}
-use mathlib.Core.List.{List, _++_}
+use mathlib.Core.List.{List}
 use native.Mathlib.Omega.{arith}
-use lib.Dec.{leb}
 use lib.ListN.{length}
-use borrow.Author.Tests.{le-leb, lt-ltb}
-use Rattle.paper.specs.Bytes.{u8At}
-use Rattle.paper.specs.Trailer.{countOf, recordAt}
-use Rattle.paper.specs.Records.{letterOk}
-use Rattle.paper.specs.Sheet.{Span, Sheet, letter, sheetOf, spanAt}
+use Rattle.paper.specs.Sheet.{Sheet, letter}
 use Rattle.paper.specs.Satisfy.{Letters, Satisfies}
 use Rattle.paper.specs.Open.{termPlaces, Open}
 use Rattle.paper.specs.Opens.{opens}
 use Rattle.paper.specs.Walk.{Walked, found, none, count}
 use Rattle.paper.specs.Order.{Before, FirstOf}
 use Rattle.paper.specs.Answers.{Said, Found, None, Spent, Refused, whole, walkOf, under}
-use Rattle.paper.proofs.Tests.{and-intro, any-intro, any-of-table}
 use Rattle.paper.proofs.Filling.{letter-fills}
-use Rattle.paper.proofs.Opening.{open-opens, opens-open, open-full, prefix-open}
+use Rattle.paper.proofs.Opening.{open-opens, opens-open, open-full}
 use Rattle.paper.proofs.Walking.{walk-finds}
 use Rattle.paper.proofs.Budget.{count-walk, under-above, under-within, under-spent, under-cases}
 
@@ -39,10 +33,6 @@ opens-right s l n p = (opens-open s n p (λ r. letter-fills s (l .0) (l .1) (ter
 -- an open prefix of n letters, n an allowed length, is exactly a key that satisfies
 pub open-satisfies : (s : Sheet) (w : List ℕ) → Letters s w → s .shortest ≤ length w → length w ≤ s .longest → Open s (length w) w ↔ Satisfies s w
 open-satisfies s w h a b = (λ o. record { letters = h; least = a; most = b; met = open-full s w .0 o }, λ k. open-full s w .1 (k .met))
-
--- each prefix of a key that satisfies is open at the key's length
-pub prefixes-open : (s : Sheet) (p v : List ℕ) → Satisfies s (p ++ v) → Open s (length (p ++ v)) p
-prefixes-open = prefix-open
 
 -- ---- the walk
 
@@ -93,14 +83,3 @@ answer-means s b = go (walkOf s) refl (walk-right s) (under-cases b (walkOf s))
     go o p r (inl e) = rw (e .1) (refl, e .0)
     go (found w t) p r (inr e) = rw (e .1, p) (r .0, r .1, rw p at (e .0))
     go (none t) p r (inr e) = rw (e .1, p) (r, rw p at (e .0))
-
--- ---- a sheet read from its bytes
-
--- the low byte of the first range is a letter
-pub first-letter : (s : List ℕ) → 1 ≤ countOf s 0 → letterOk s (recordAt s 0 0) ≡ true → u8At s (recordAt s 0 0) < 256 → HasLetter (sheetOf s)
-unfolding sheetOf letter letterOk spanAt
-first-letter s h e l =
-    let b = u8At s (recordAt s 0 0) in
-    let f : Span → Bool = λ r. leb (r .low) b && leb b (r .high) in
-    let a = any-intro (countOf s 0) (λ k. f (spanAt s (0 + k))) 0 h (and-intro (le-leb b b (omega arith)) e) in
-    (b, and-intro (lt-ltb b 256 l) (any-of-table f 0 (countOf s 0) (spanAt s) ∙ a))

@@ -1,16 +1,15 @@
 -- The tests `nullable`, `carried` and `reaches` say what they should: a row derives the empty word; steps that keep the length lead to a row.
 -- Assumes nothing.
-use Prim.Native.Nat.{ℕ, zero, suc, _+_, _≤_, _<_}
+use Prim.Native.Nat.{ℕ, zero, suc, _≤_, _<_}
 use mathlib.Core.Path.{_≡_, refl, sym, ap, _∙_, subst}
-use mathlib.Core.Bool.{Bool, true, false, _&&_, _||_, true≢false}
+use mathlib.Core.Bool.{Bool, true, _&&_, _||_, true≢false}
 use mathlib.Core.Logic.{_↔_, _⊎_, inl, inr}
 use mathlib.Core.List.{List, [], _∷_, _++_, append-nil}
 use native.Mathlib.Omega.{arith}
 use native.Mathlib.Nat.{lt-of-not-le}
 use lib.Dec.{eqb}
 use lib.ListN.{length, List·getD-eq-default}
-use Rattle.paper.specs.Tests.{anyBelow}
-use Rattle.paper.proofs.Tests.{any-intro, any-elim, and-intro, and-left, and-right, or-left, or-right, or-cases, same-test, eqb-same, same-eqb}
+use Rattle.paper.proofs.Tests.{and-intro, and-left, and-right, or-left, or-right, or-cases, eqb-same, same-eqb}
 use Rattle.paper.proofs.Closure.{Monotone, closure-closed, closure-least}
 use Rattle.paper.specs.Rows.{Row, Empty, Range, Text, Alt, Seq, Star, Grammar, row, stretch, Derives, Keeps, Reach}
 use Rattle.paper.specs.Decide.{nullRow, nullRule, nullable, reachRow, reachRule, carried, reaches}
@@ -192,9 +191,6 @@ carried-from : (g : Grammar) (seed : ℕ → Bool) {r q : ℕ} → q < length (g
 carried-from g seed l (Reach.here {r = r}) h = carried-closed g seed r l (or-left (seed r) _ h)
 carried-from g seed l (Reach.step {r = r} k s) h = carried-closed g seed r (keeps-below g k) (or-right (seed r) _ (reach-by g (carried g seed) k (carried-from g seed l s h)))
 
-pub carried-right : (g : Grammar) (seed : ℕ → Bool) (r : ℕ) → (carried g seed r ≡ true) ↔ Reached g seed r
-carried-right g seed r = (carried-sound g seed r, λ z. carried-from g seed (z .1) (z .2) (z .3))
-
 pub reaches-sound : (g : Grammar) (r q : ℕ) → reaches g r q ≡ true → Reach g r q
 unfolding reaches
 reaches-sound g r q e = let z = carried-sound g (λ p. eqb p q) r e in subst (Reach g r) (eqb-same (z .0) q (z .3)) (z .2)
@@ -202,18 +198,6 @@ reaches-sound g r q e = let z = carried-sound g (λ p. eqb p q) r e in subst (Re
 pub reaches-from : (g : Grammar) {r q : ℕ} → q < length (g .rows) → Reach g r q → reaches g r q ≡ true
 unfolding reaches
 reaches-from g {r} {q} l s = carried-from g (λ p. eqb p q) l s (same-eqb q q refl)
-
--- a set carried back along the steps, as a program does it span by span: the same as to look for a row that is reached
-pub carried-any : (g : Grammar) (seed : ℕ → Bool) (r : ℕ) → carried g seed r ≡ anyBelow (length (g .rows)) (λ q. reaches g r q && seed q)
-carried-any g seed r = same-test _ _ there back
-  where
-    there : carried g seed r ≡ true → anyBelow (length (g .rows)) (λ q. reaches g r q && seed q) ≡ true
-    there e = let z = carried-sound g seed r e in any-intro (length (g .rows)) (λ q. reaches g r q && seed q) (z .0) (z .1) (and-intro (reaches-from g (z .1) (z .2)) (z .3))
-
-    back : anyBelow (length (g .rows)) (λ q. reaches g r q && seed q) ≡ true → carried g seed r ≡ true
-    back e =
-        let z = any-elim (length (g .rows)) (λ q. reaches g r q && seed q) e in
-        carried-from g seed (z .1) (reaches-sound g r (z .0) (and-left (reaches g r (z .0)) _ (z .2))) (and-right (reaches g r (z .0)) _ (z .2))
 
 -- ---- a step that keeps the length hands a derivation back
 

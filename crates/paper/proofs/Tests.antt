@@ -191,12 +191,6 @@ module _ {A : Type 0} where
   at-all-of f [] d h = all-of-nil f
   at-all-of f (x ∷ l) d h = rw (all-of-cons f x l) (and-intro (h 0 (omega arith)) (at-all-of f l d (λ k m. h (suc k) (omega arith))))
 
-  pub all-of-below : (f : A → Bool) (l : List A) (d : A) → allOf f l ≡ allBelow (length l) (λ k. f (getD l k d))
-  all-of-below f l d =
-      same-test (allOf f l) (allBelow (length l) (λ k. f (getD l k d)))
-      (λ e. all-intro (length l) (λ k. f (getD l k d)) (all-of-at f l d e))
-      (λ e. at-all-of f l d (all-elim (length l) (λ k. f (getD l k d)) e))
-
   -- a test of each element, and a property of every one
   pub all-of-every : (f : A → Bool) (P : A → Type 0) → ((x : A) → f x ≡ true → P x) → (l : List A) → allOf f l ≡ true → Every P l
   all-of-every f P h [] e = tt
@@ -252,14 +246,3 @@ module _ {A : Type 0} where
   any-of-table f i (suc n) g =
       let e = any-of-table f (suc i) n g in
       rw (any-of-cons f (g i) (tableFrom (suc i) n g), e, any-first n (λ k. f (g (i + k)))) (simp (add-zero, add-suc, suc-add))
-
-  pub all-of-table : (f : A → Bool) (i n : ℕ) (g : ℕ → A) → allOf f (tableFrom i n g) ≡ allBelow n (λ k. f (g (i + k)))
-  all-of-table f i n g = same-test _ _ there back
-    where
-      there : allOf f (tableFrom i n g) ≡ true → allBelow n (λ k. f (g (i + k))) ≡ true
-      there e = all-intro n (λ k. f (g (i + k))) (λ k l. rw (table-at i n g (g i) k l) at (all-of-at f (tableFrom i n g) (g i) e k (rw table-length l)))
-
-      back : allBelow n (λ k. f (g (i + k))) ≡ true → allOf f (tableFrom i n g) ≡ true
-      back e =
-          at-all-of f (tableFrom i n g) (g i)
-          (λ k l. let m : k < n = rw table-length at l in rw (table-at i n g (g i) k m) (all-elim n (λ k. f (g (i + k))) e k m))

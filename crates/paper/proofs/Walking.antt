@@ -3,7 +3,7 @@
 use Prim.Native.Nat.{ℕ, zero, suc, _+_, _-_, _≤_, _<_}
 use mathlib.Core.Path.{_≡_, refl, ap, sym, _∙_}
 use mathlib.Core.Bool.{Bool, true, false, true≢false}
-use mathlib.Core.Logic.{_⊎_, inl, inr}
+use mathlib.Core.Logic.{inl, inr}
 use mathlib.Core.List.{List, [], _∷_, _++_, append-assoc, append-nil}
 use native.Mathlib.Omega.{arith}
 use native.Mathlib.Decide.{decLt}
@@ -34,37 +34,6 @@ lower-after [] c e v x l (inr h) = omega arith
 lower-after (a ∷ p) c e v x l (inl h) = omega arith
 lower-after (a ∷ p) c e v x l (inr h) = lower-after p c e v x l (h .1)
 
-lower-or-same : (u w : List ℕ) → length u ≡ length w → (u ≡ w) ⊎ (Lower u w ⊎ Lower w u)
-lower-or-same [] [] e = inl refl
-lower-or-same [] (b ∷ w) e = absurd (omega arith)
-lower-or-same (a ∷ u) [] e = absurd (omega arith)
-lower-or-same (a ∷ u) (b ∷ w) e = go (decLt a b) (decLt b a) (lower-or-same u w (omega arith))
-  where
-    go : Dec (a < b) → Dec (b < a) → (u ≡ w) ⊎ (Lower u w ⊎ Lower w u) → (a ∷ u ≡ b ∷ w) ⊎ (Lower (a ∷ u) (b ∷ w) ⊎ Lower (b ∷ w) (a ∷ u))
-    go (yes l) d i = inr (inl (inl l))
-    go (no l) (yes m) i = inr (inr (inl m))
-    go (no l) (no m) (inl q) =
-        let z : a ≡ b = omega arith in
-        inl (cc)
-    go (no l) (no m) (inr (inl q)) = inr (inl (inr (omega arith, q)))
-    go (no l) (no m) (inr (inr q)) = inr (inr (inr (omega arith, q)))
-
--- two words, neither before the other, are one
-pub before-same : (u w : List ℕ) → (Before u w → ⊥) → (Before w u → ⊥) → u ≡ w
-before-same u w p q = go (decLt (length u) (length w)) (decLt (length w) (length u))
-  where
-    among : length u ≡ length w → (u ≡ w) ⊎ (Lower u w ⊎ Lower w u) → u ≡ w
-    among e (inl z) = z
-    among e (inr (inl z)) = absurd (p (inr (e, z)))
-    among e (inr (inr z)) = absurd (q (inr (sym e, z)))
-
-    go : Dec (length u < length w) → Dec (length w < length u) → u ≡ w
-    go (yes l) d = absurd (p (inl l))
-    go (no l) (yes m) = absurd (q (inl m))
-    go (no l) (no m) =
-        let z : length u ≡ length w = omega arith in
-        among z (lower-or-same u w z)
-
 -- ---- right outcomes
 
 first-map : (C D : List ℕ → Type 0) (o : Walked) → ((u : List ℕ) → C u → D u) → ((u : List ℕ) → D u → C u) → FirstOf C o → FirstOf D o
@@ -74,20 +43,6 @@ first-map C D (none t) f g r = λ u d. r u (g u d)
 first-plus : (C : List ℕ → Type 0) (k : ℕ) (o : Walked) → FirstOf C o → FirstOf C (plus k o)
 first-plus C k (found w t) r = r
 first-plus C k (none t) r = r
-
--- the same word, or none both
-abbrev pub Agree : Walked → Walked → Type 0
-Agree (found u s) (found w t) = u ≡ w
-Agree (found u s) (none t) = ⊥
-Agree (none s) (found w t) = ⊥
-Agree (none s) (none t) = Unit {0}
-
--- two right outcomes agree
-pub first-agree : (C : List ℕ → Type 0) (o r : Walked) → FirstOf C o → FirstOf C r → Agree o r
-first-agree C (found u s) (found w t) p q = before-same u w (q .1 u (p .0)) (p .1 w (q .0))
-first-agree C (found u s) (none t) p q = q u (p .0)
-first-agree C (none s) (found w t) p q = p w (q .0)
-first-agree C (none s) (none t) p q = tt
 
 -- ---- walks one after the other, those of the earlier numbers before the others
 

@@ -19,10 +19,6 @@ kept s t i e l h =
     all-good (λ k. recordOk s t (recordAt s t k)) (countOf s t) i (eqb-true _ _ (all-good (tableOk s) 5 t e l)) h
 
 module _ (s : List ℕ) (o text rows parts : ℕ) (e : assertOk s o text rows parts ≡ true) where
-  pub sign-ok : u8At s (o + 1) ≤ 1
-  unfolding assertOk
-  sign-ok = leb-true _ _ (and-left (leb (u8At s (o + 1)) 1) _ e)
-
   pub run-ok : u16At s (o + 2) + u16At s (o + 4) ≤ parts
   unfolding assertOk
   run-ok = leb-true _ _ (and-left (leb (u16At s (o + 2) + u16At s (o + 4)) parts) _ (and-right (leb (u8At s (o + 1)) 1) _ e))

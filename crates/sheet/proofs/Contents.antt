@@ -22,10 +22,6 @@ use Rattle.paper.proofs.Tests.{table-length, table-at, any-of-table, any-intro,
 use Rattle.sheet.proofs.Good.{good}
 
 module _ (s : List ℕ) where
-  pub letters-length : length (sheetOf s .letters) ≡ countOf s 0
-  unfolding sheetOf
-  letters-length = table-length 0 (countOf s 0) (spanAt s)
-
   pub rows-length : length (grammarOf s .rows) ≡ countOf s 2
   unfolding grammarOf
   rows-length = table-length 0 (countOf s 2) (rowAt s)
@@ -41,10 +37,6 @@ module _ (s : List ℕ) where
   pub text-length : refusal s ≡ 0 → length (textOf s) ≡ countOf s 1
   unfolding textOf
   text-length e = length-take-le _ _ (rw length-drop (omega (arith, good s e .tables 1 (omega arith))))
-
-  pub span-here : (i : ℕ) (d : Span) → i < countOf s 0 → getD (sheetOf s .letters) i d ≡ spanAt s i
-  unfolding sheetOf
-  span-here i d h = table-at 0 (countOf s 0) (spanAt s) d i h ∙ ap (spanAt s) (zero-add i)
 
   pub row-here : (i : ℕ) → i < countOf s 2 → row (grammarOf s) i ≡ rowAt s i
   unfolding grammarOf row

@@ -9,7 +9,7 @@ use Rattle.sheet.proofs.Good.{good}
 use Rattle.chart.specs.Cells.{Within}
 use Rattle.chart.proofs.Filling.{within-none, within-then}
 use Rattle.state.specs.Letters.{hasLetter}
-use Rattle.walk.proofs.Seek.{Seeking, seek-start, seek-marks, seek-found, seek-spent, seek-over, seek-none, seek-next, seek-length}
+use Rattle.walk.proofs.Seek.{Seeking, seek-start, seek-found, seek-spent, seek-over, seek-none, seek-next, seek-length}
 use Rattle.search.proofs.Tellings.{tells-found, tells-none, tells-spent}
 use Rattle.search.proofs.seek.Statement.{statement}
 use Rattle.search.proofs.seek.Tie as tie
@@ -35,12 +35,12 @@ loop-holds : tie.Need-loop-holds Inv-loop μ-loop
 loop-holds c = (seek-start _ _ _ _ _ _ (c .start .result) _ (c .start .ensures) (c .before .before .before .before .pre .2) (omega (arith, good _ (c .before .before .before .before .pre .0) .short, c .before .before .before .before .pre .3)) (search needs), search needs, within-none _)
 
 slice-aggregate-judged : tie.Need-slice-aggregate-judged Inv-loop μ-loop
-slice-aggregate-judged c = sym (c .before .before .before .before .before .loop .inv .0 .letters)
+slice-aggregate-judged c = sym (c .before .before .before .before .before .loop .inv .0 .frame .letters)
 
 judged-requires : tie.Need-judged-requires Inv-loop μ-loop
 judged-requires c κs =
     let i = c .before .before .before .before .before .before .loop .inv .0 in
-    (c .before .before .before .before .before .before .before .before .before .before .before .pre .0, c .before .before .before .before .before .before .before .before .before .before .before .pre .1, i .within, omega (arith, i .letters, i .within, i .range, i .top), omega (arith, i .range, c .before .before .before .before .before .before .before .before .before .before .before .pre .3), omega (arith, c .before .before .before .before .before .before .loop .inv .2 .long, c .before .before .before .before .before .before .before .before .before .before .before .pre .6))
+    (c .before .before .before .before .before .before .before .before .before .before .before .pre .0, c .before .before .before .before .before .before .before .before .before .before .before .pre .1, i .within, omega (arith, i .frame .letters, i .within, i .range, i .top), omega (arith, i .range, c .before .before .before .before .before .before .before .before .before .before .before .pre .3), omega (arith, c .before .before .before .before .before .before .loop .inv .2 .long, c .before .before .before .before .before .before .before .before .before .before .before .pre .6))
 
 is-word-requires : tie.Need-is-word-requires Inv-loop μ-loop
 is-word-requires c κs = tt
@@ -56,7 +56,7 @@ returns c =
     let i = c .before .before .before .before .before .before .before .before .before .before .before .before .loop .inv .0 in
     let w = c .before .before .is-word .ensures in
     let y = c .before .if2 .taken in (
-      tells-found _ _ (c .before .before .before .before .before .before .before .before .before .before .before .before .loop .q .prefix) _ (omega (arith, i .within, i .range)) (omega (arith, i .within, i .range, i .top)) (i .letters)
+      tells-found _ _ (c .before .before .before .before .before .before .before .before .before .before .before .before .loop .q .prefix) _ (omega (arith, i .within, i .range)) (omega (arith, i .within, i .range, i .top)) (i .frame .letters)
           (seek-found _ _ _ _ _ _ _ _ _ i (c .before .before .before .before .before .before .before .before .before .before .if1 .taken) (w .full y) (sym (c .before .before .before .before .before .judged .ensures .0) ∙ w .opened y)),
       within-then _ _ _ (c .before .before .before .before .before .before .before .before .before .before .before .before .loop .inv .2) (c .before .before .before .before .before .judged .ensures .1),
     )
@@ -68,7 +68,7 @@ advance-requires : tie.Need-advance-requires Inv-loop μ-loop
 advance-requires c κs =
     let w = c .before .before .is-word .ensures in
     let i = c .before .before .before .before .before .before .before .before .before .before .before .before .loop .inv .0 in
-    (omega (arith, i .range, i .top), i .within, (λ o. omega (arith, i .within, w .short (c .before .if2 .left) o)), c .before .before .before .before .before .before .before .before .before .before .if1 .taken, i .fine, seek-marks _ _ _ _ _ _ _ _ _ i, c .before .before .before .before .before .before .before .before .before .before .before .before .before .before .before .before .before .pre .5, omega (arith, c .before .before .before .before .before .before .before .before .before .before .before .before .loop .inv .1))
+    (omega (arith, i .range, i .top), i .within, (λ o. omega (arith, i .within, w .short (c .before .if2 .left) o)), c .before .before .before .before .before .before .before .before .before .before .if1 .taken, i .fine, i .frame .marks, c .before .before .before .before .before .before .before .before .before .before .before .before .before .before .before .before .before .pre .5, omega (arith, c .before .before .before .before .before .before .before .before .before .before .before .before .loop .inv .1))
 
 wordless-requires : tie.Need-wordless-requires Inv-loop μ-loop
 wordless-requires c κs = tt

@@ -1,6 +1,6 @@
 use native.Mathlib.Omega.{arith}
 use Rattle.paper.specs.Bytes.{u16}
-use Rattle.groups.specs.Parts.{optionFields}
+use Rattle.groups.specs.Parts.{fieldBytes}
 use Rattle.groups.proofs.Stores.{put-more}
 use borrow.Author.Needs.{needs}
 use Rattle.groups.proofs.bytes.put_option.Statement.{statement}
@@ -24,7 +24,7 @@ same-length : tie.Need-same-length
 same-length c = search needs
 
 returns : tie.Need-returns
-unfolding u16 optionFields
+unfolding u16 fieldBytes
 returns c =
     let a = put-more (c .before .before .before .before .before .before .before .before .before .before .before .before .before .before .put-pair .ensures) (c .before .before .before .before .before .before .before .before .before .before .put-u16 .ensures) in
     let b = put-more a (c .before .before .before .before .before .before .put-u162 .ensures) in
