@@ -10,8 +10,8 @@ use std::time::{Duration, Instant};
 use crate::everyday;
 use crate::keys::keys;
 use crate::program::{line, Program};
-use crate::sheet::LENGTH_LIMIT;
-use crate::solve::WORK;
+use crate::second::sheet::LENGTH_LIMIT;
+use crate::second::solve::WORK;
 
 /// Each measure is repeated until so much time has passed.
 const ENOUGH: Duration = Duration::from_millis(200);

@@ -2,17 +2,17 @@
 
 use std::time::{Duration, Instant};
 
-use crate::alike::{self, Passed};
 use crate::compare::{Comparison, Difference, GateCall, MakeCall, SolveCall};
-use crate::gate::CutList;
+use crate::count::{count, Passed};
 use crate::gen;
 use crate::gen::damage::with_byte_changed;
 use crate::gen::lists;
-use crate::make::Plan;
 use crate::program::Program;
+use crate::second::gate::CutList;
+use crate::second::make::Plan;
+use crate::second::sheet::{Assertion, Claim, Sheet, LENGTH_LIMIT};
+use crate::second::solve::{walk, Walked, WORK};
 use crate::seed::Seeded;
-use crate::sheet::{Assertion, Claim, Sheet, LENGTH_LIMIT};
-use crate::solve::{walk, Walked, WORK};
 use crate::tally::Tally;
 
 /// A list longer than this is asked for only with too little space.
@@ -263,7 +263,7 @@ impl Case<'_, '_> {
     fn deep_alike(&mut self) -> Result<(), Difference> {
         let bytes = gen::alike::deep_alike(&mut self.s).bytes();
         let sheet = Sheet::check(&bytes).expect("a valid sheet");
-        let Some(counted) = alike::count(&sheet, 2_000) else {
+        let Some(counted) = count(&sheet, 2_000) else {
             self.comparison.tally.sort("too long to count");
             return Ok(());
         };

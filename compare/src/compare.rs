@@ -2,12 +2,12 @@
 
 use std::fmt::Debug;
 
-use crate::gate::gate;
 use crate::lent::Lent;
-use crate::make::make;
 use crate::program::{hex, Program};
-use crate::sheet::Sheet;
-use crate::solve::{solve_by, Walked};
+use crate::second::gate::gate;
+use crate::second::make::make;
+use crate::second::sheet::Sheet;
+use crate::second::solve::{solve_by, Walked};
 use crate::tally::Tally;
 
 /// What was asked and how the two programs differ.

@@ -1,8 +1,8 @@
 //! The proved library through its C calls.
 
-use crate::make::Made;
 use crate::program::Program;
-use crate::solve::Solved;
+use crate::second::make::Made;
+use crate::second::solve::Solved;
 
 #[repr(C)]
 #[allow(non_camel_case_types)]

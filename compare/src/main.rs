@@ -11,9 +11,9 @@ use compare::check::{self, Report};
 use compare::compare::Difference;
 use compare::keys::{keys, BUDGET};
 use compare::program::{line, Program, Second};
+use compare::second::sheet::{LENGTH_LIMIT, SHEET_LIMIT};
+use compare::second::solve::{solve, WORK};
 use compare::selfcheck::selfcheck;
-use compare::sheet::{LENGTH_LIMIT, SHEET_LIMIT};
-use compare::solve::{solve, WORK};
 
 const USAGE: &str =
     "compare check SEED COUNT [SECONDS]   the proved library against the second program

@@ -1,8 +1,8 @@
 //! The three calls, so that any two programs that have them can be compared.
 
-use crate::gate::gate;
-use crate::make::{make, Made};
-use crate::solve::{solve, Solved};
+use crate::second::gate::gate;
+use crate::second::make::{make, Made};
+use crate::second::solve::{solve, Solved};
 
 pub trait Program {
     fn solve(&self, sheet: &[u8], budget: u64, work: &mut [u64], out: &mut [u8]) -> Solved;

@@ -1,13 +1,13 @@
 //! The second program against brute force, and the comparison itself: it must pass a program that
 //! answers the same and see each way of differing.
 
-use compare::alike;
 use compare::check::{check, check_alike};
-use compare::make::Made;
+use compare::count::count;
 use compare::program::{Program, Second};
+use compare::second::make::Made;
+use compare::second::sheet::Sheet;
+use compare::second::solve::{solve_by, Solved, Walked, WORK};
 use compare::selfcheck::selfcheck;
-use compare::sheet::Sheet;
-use compare::solve::{solve_by, Solved, Walked, WORK};
 
 #[test]
 fn second_program_agrees_with_brute_force() {
@@ -99,7 +99,7 @@ struct Counting(u64);
 impl Program for Counting {
     fn solve(&self, sheet: &[u8], budget: u64, work: &mut [u64], out: &mut [u8]) -> Solved {
         let walk = |sheet: &Sheet, budget: u64| {
-            let counted = alike::count(sheet, 2_000)?;
+            let counted = count(sheet, 2_000)?;
             let trials = u64::try_from(counted.trials).ok()?.saturating_sub(self.0);
             (trials <= budget).then_some(Walked { trials, found: counted.found })
         };
