@@ -1,5 +1,6 @@
 //! A run of generated cases through the comparison, with arguments at every interesting edge.
 
+use std::ops::Range;
 use std::time::{Duration, Instant};
 
 use crate::compare::{Comparison, Difference, GateCall, MakeCall, SolveCall};
@@ -28,33 +29,50 @@ pub struct Report {
     pub tally: Tally,
 }
 
-/// Runs up to `count` cases, and none begun after so many seconds.
+/// Runs the cases of that seed, and none begun after so many seconds.
 pub fn check(
-    program: &dyn Program,
+    program: &mut dyn Program,
     seed: u64,
-    count: u64,
+    cases: Range<u64>,
     seconds: Option<u64>,
 ) -> Result<Report, Difference> {
     let end = seconds.map(|seconds| Instant::now() + Duration::from_secs(seconds));
-    let mut comparison = Comparison { program, tally: Tally::default() };
-    let mut cases = 0;
-    while cases < count && end.is_none_or(|end| Instant::now() < end) {
-        let mut run = Case { s: Seeded::new(seed, cases), comparison: &mut comparison };
-        let result = if run.s.once_in(6) { run.foreign_list() } else { run.sheets() };
-        result.map_err(|Difference(text)| Difference(format!("case {cases}\n{text}")))?;
-        cases += 1;
-    }
-    Ok(Report { cases, tally: comparison.tally })
+    run(program, seed, cases, |case| {
+        if end.is_some_and(|end| Instant::now() >= end) {
+            return Ok(false);
+        }
+        if case.s.once_in(6) { case.foreign_list() } else { case.sheets() }.map(|()| true)
+    })
 }
 
 /// Compares counts that no plain walk can reach; for a program that takes alike letters together.
-pub fn check_alike(program: &dyn Program, seed: u64, count: u64) -> Result<Report, Difference> {
-    let mut comparison = Comparison { program, tally: Tally::default() };
-    for case in 0..count {
-        let mut run = Case { s: Seeded::new(seed, case), comparison: &mut comparison };
-        run.deep_alike().map_err(|Difference(text)| Difference(format!("case {case}\n{text}")))?;
+pub fn check_alike(
+    program: &mut dyn Program,
+    seed: u64,
+    cases: Range<u64>,
+) -> Result<Report, Difference> {
+    run(program, seed, cases, |case| case.deep_alike().map(|()| true))
+}
+
+/// Runs cases until one says that it is not to be.
+fn run(
+    program: &mut dyn Program,
+    seed: u64,
+    cases: Range<u64>,
+    mut each: impl FnMut(&mut Case) -> Result<bool, Difference>,
+) -> Result<Report, Difference> {
+    let mut comparison = Comparison::new(program);
+    let mut done = 0;
+    for number in cases {
+        comparison.begin(number);
+        let s = Seeded::new(seed, number);
+        if !each(&mut Case { s, comparison: &mut comparison })? {
+            break;
+        }
+        done += 1;
     }
-    Ok(Report { cases: count, tally: comparison.tally })
+    comparison.settle()?;
+    Ok(Report { cases: done, tally: comparison.tally })
 }
 
 /// One case of a run.

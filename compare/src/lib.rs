@@ -4,17 +4,17 @@ pub mod second;
 
 pub mod bench;
 pub mod brute;
+pub mod call;
 pub mod check;
 pub mod compare;
 pub mod count;
 pub mod draft;
 pub mod everyday;
-#[cfg(feature = "proved")]
-pub mod ffi;
 pub mod gen;
+pub mod guards;
 pub mod keys;
-pub mod lent;
 pub mod program;
+pub mod proved;
 pub mod seed;
 pub mod selfcheck;
 pub mod tally;
