@@ -36,12 +36,12 @@ pub fn check(
     cases: Range<u64>,
     seconds: Option<u64>,
 ) -> Result<Report, Difference> {
-    let end = seconds.map(|seconds| Instant::now() + Duration::from_secs(seconds));
-    run(program, seed, cases, |case| {
-        if end.is_some_and(|end| Instant::now() >= end) {
-            return Ok(false);
+    run(program, seed, cases, seconds, |case| {
+        if case.s.once_in(6) {
+            case.foreign_list()
+        } else {
+            case.sheets()
         }
-        if case.s.once_in(6) { case.foreign_list() } else { case.sheets() }.map(|()| true)
     })
 }
 
@@ -50,25 +50,27 @@ pub fn check_alike(
     program: &mut dyn Program,
     seed: u64,
     cases: Range<u64>,
+    seconds: Option<u64>,
 ) -> Result<Report, Difference> {
-    run(program, seed, cases, |case| case.deep_alike().map(|()| true))
+    run(program, seed, cases, seconds, |case| case.deep_alike())
 }
 
-/// Runs cases until one says that it is not to be.
 fn run(
     program: &mut dyn Program,
     seed: u64,
     cases: Range<u64>,
-    mut each: impl FnMut(&mut Case) -> Result<bool, Difference>,
+    seconds: Option<u64>,
+    each: impl Fn(&mut Case) -> Result<(), Difference>,
 ) -> Result<Report, Difference> {
+    let end = seconds.map(|seconds| Instant::now() + Duration::from_secs(seconds));
     let mut comparison = Comparison::new(program);
     let mut done = 0;
     for number in cases {
-        comparison.begin(number);
-        let s = Seeded::new(seed, number);
-        if !each(&mut Case { s, comparison: &mut comparison })? {
+        if end.is_some_and(|end| Instant::now() >= end) {
             break;
         }
+        comparison.begin(number);
+        each(&mut Case { s: Seeded::new(seed, number), comparison: &mut comparison })?;
         done += 1;
     }
     comparison.settle()?;

@@ -3,6 +3,7 @@
 use std::env;
 use std::fs;
 use std::io::{self, Read};
+use std::ops::Range;
 use std::path::Path;
 use std::process::ExitCode;
 
@@ -20,7 +21,7 @@ use compare::selfcheck::selfcheck;
 const USAGE: &str =
     "of the proved library, from the top of the repository, with target/calls built:
 compare check SEED COUNT [SECONDS]   the proved library against the second program
-compare alike SEED COUNT             the same on counts past every plain walk
+compare alike SEED COUNT [SECONDS]   the same on counts past every plain walk
 compare case check|alike SEED CASE   one case of these again
 compare guards                       touches beside a buffer, each to be seen
 compare bench FOLDER                 seconds and instructions: sheets of the folder, maker, gate
@@ -34,10 +35,11 @@ fn main() -> ExitCode {
     let arguments: Vec<String> = env::args().skip(1).collect();
     let words: Vec<&str> = arguments.iter().map(String::as_str).collect();
     let result = match words[..] {
-        ["check", seed, count] => run_check(seed, count, None),
-        ["check", seed, count, seconds] => run_check(seed, count, Some(seconds)),
-        ["alike", seed, count] => run_alike(seed, count),
-        ["case", sort, seed, case] => run_case(sort, seed, case),
+        [sort @ ("check" | "alike"), seed, count] => run_cases(sort, seed, count, None),
+        [sort @ ("check" | "alike"), seed, count, seconds] => {
+            run_cases(sort, seed, count, Some(seconds))
+        }
+        ["case", sort @ ("check" | "alike"), seed, case] => run_case(sort, seed, case),
         ["guards"] => run_guards(),
         ["bench", folder] => bench(Path::new(folder)),
         ["self", seed, count] => run_self(seed, count),
@@ -59,23 +61,18 @@ fn number(word: &str) -> Result<u64, String> {
     word.parse().map_err(|_| format!("not a number: {word}\n{USAGE}"))
 }
 
-fn run_check(seed: &str, count: &str, seconds: Option<&str>) -> Result<(), String> {
-    let seconds = seconds.map(number).transpose()?;
-    report(check(&mut Proved::start()?, number(seed)?, 0..number(count)?, seconds))
-}
-
-fn run_alike(seed: &str, count: &str) -> Result<(), String> {
-    report(check_alike(&mut Proved::start()?, number(seed)?, 0..number(count)?))
+fn run_cases(sort: &str, seed: &str, count: &str, seconds: Option<&str>) -> Result<(), String> {
+    compared(sort, number(seed)?, 0..number(count)?, seconds.map(number).transpose()?)
 }
 
 fn run_case(sort: &str, seed: &str, case: &str) -> Result<(), String> {
-    let (seed, case) = (number(seed)?, number(case)?);
-    let mut proved = Proved::start()?;
-    report(match sort {
-        "check" => check(&mut proved, seed, case..case + 1, None),
-        "alike" => check_alike(&mut proved, seed, case..case + 1),
-        _ => return Err(USAGE.to_string()),
-    })
+    let case = number(case)?;
+    compared(sort, number(seed)?, case..case + 1, None)
+}
+
+fn compared(sort: &str, seed: u64, cases: Range<u64>, seconds: Option<u64>) -> Result<(), String> {
+    let compared = if sort == "check" { check } else { check_alike };
+    report(compared(&mut Proved::start()?, seed, cases, seconds))
 }
 
 fn report(result: Result<Report, Difference>) -> Result<(), String> {

@@ -117,7 +117,7 @@ impl Calls for Counting {
 
 #[test]
 fn counts_past_every_plain_walk() {
-    let report = check_alike(&mut Here::new(Counting(0)), 7, 0..60).expect("no difference");
+    let report = check_alike(&mut Here::new(Counting(0)), 7, 0..60, None).expect("no difference");
     assert!(report.tally.answered("solve", 0) > 20 && report.tally.answered("solve", 2) > 20);
-    assert!(check_alike(&mut Here::new(Counting(1)), 7, 0..60).is_err());
+    assert!(check_alike(&mut Here::new(Counting(1)), 7, 0..60, None).is_err());
 }
