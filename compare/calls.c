@@ -113,8 +113,8 @@ static const uint8_t *lent(const buffer *b)
     return pattern.bytes;
 }
 
-/* Which of the pages was touched, if it was one. */
-static void faulted(int number, siginfo_t *info, void *context)
+/* Which of the pages was touched, if it was one. An emulator may come here with the stack out of line. */
+__attribute__((force_align_arg_pointer)) static void faulted(int number, siginfo_t *info, void *context)
 {
     const uint8_t *at = info->si_addr;
     char line[96];

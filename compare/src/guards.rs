@@ -25,7 +25,7 @@ pub fn guards() -> Result<usize, String> {
             Ok(()) => String::new(),
             Err(Difference(text)) => text,
         };
-        let blamed = text.contains("case 1\nTouch") && text.contains("ended here");
+        let blamed = text.contains("case 1\nTouch") && text.contains("\ncalls: ");
         if blamed != seen || text.is_empty() == seen {
             return Err(format!("a touch of byte {at} of {LENGTH}, placed {place:?}: {text}"));
         }
