@@ -1,3 +1,5 @@
 pub mod Answering
+pub mod Counting
 pub mod Handed
 pub mod Demands
+pub mod Promised

@@ -1,13 +1,13 @@
 -- Two results that the gate's promise allows coincide.
 -- Assumes nothing.
 use Prim.Native.Nat.{ℕ}
+use mathlib.Core.Path.{_≡_, refl}
 use mathlib.Core.List.{List}
-use mathlib.Core.Path.{_≡_, refl, sym, ap, _∙_}
 use mathlib.Core.Bool.{cond}
 use lib.Dec.{eqb}
-use Rattle.paper.specs.Answers.{gateLeaves}
+use Rattle.paper.specs.Promises.{Gates}
+use Rattle.paper.proofs.Coincide.{gates-coincide, told}
 use Rattle.gate.specs.Number.{numberOf}
-use Rattle.gate.specs.Promise.{Promise}
 use Rattle.gate.specs.declared.answer.Gate.{Gate}
 use Rattle.gate.specs.declared.answer.Gate.the-variants.{Yes, No, Malformed, Length, Workspace}
 
@@ -25,8 +25,8 @@ back Malformed = refl
 back Length = refl
 back Workspace = refl
 
-module _ (list text word work : List ℕ) where
-  pub coincide : (g h : Gate) (v w : List ℕ) → Promise list text word work g v → Promise list text word work h w → (g ≡ h) × (v ≡ w)
-  coincide g h v w p q =
-      let n : numberOf g ≡ numberOf h = p .says ∙ sym (q .says) in
-      (sym (back g) ∙ ap answerOf n ∙ back h, p .leaves ∙ ap (λ k. gateLeaves k work) n ∙ sym (q .leaves))
+pub coincide : (list text word work : List ℕ) (g h : Gate) (work′ work″ : List ℕ)
+    → Gates list text word work (numberOf g) work′ → Gates list text word work (numberOf h) work″ → (g ≡ h) × (work′ ≡ work″)
+coincide list text word work g h work′ work″ a b =
+    let c = gates-coincide list text word work (numberOf g) (numberOf h) work′ work″ a b in
+    (told numberOf answerOf back g h (c .0), c .1)

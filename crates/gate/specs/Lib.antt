@@ -1,4 +1,3 @@
 pub mod Readable
 pub mod Marks
 pub mod Number
-pub mod Promise

@@ -4,15 +4,12 @@ mod marks;
 
 pub use answer::Gate;
 pub use answer::number;
-ghost use mathlib.Core.Path.{_≡_};
-ghost use lib.ListN.{length};
-ghost use Rattle.paper.specs.Answers.{gateSays, gateLeaves};
+ghost use Rattle.paper.specs.Promises.{Gates};
 ghost use Rattle.gate.specs.Number.{numberOf};
 
 // Whether the list accepts the word, with the text: on any list, text, word and workspace.
 pub fn gate(list: &[u8], text: &[u8], word: &[u8], work: &mut [u64]) -> Gate
-    ensures { λ r. ⌜ numberOf r ≡ gateSays (now (list .entry)) (now (text .entry)) (now (word .entry)) (length (now (work .entry))) ⌝ }
-    ensures { λ r. ⌜ now (work .exit) ≡ gateLeaves (numberOf r) (now (work .entry)) ⌝ }
+    ensures { λ r. ⌜ Gates (now (list .entry)) (now (text .entry)) (now (word .entry)) (now (work .entry)) (numberOf r) (now (work .exit)) ⌝ }
 {
     if !list::well_formed(list, text.len()) {
         return Gate::Malformed;

@@ -13,33 +13,19 @@ use lib.Seq.{getD-set-same, getD-set-other}
 use borrow.Author.Count.{below-more}
 use Rattle.paper.proofs.Reaching.{outside}
 use Rattle.paper.specs.Rows.{Range, Text, Seq, Star, Grammar, row}
-use Rattle.paper.specs.Refusals.{refusal}
 use Rattle.paper.specs.Sheet.{Sheet, letter, textOf, grammarOf, sheetOf}
 use Rattle.workspace.specs.Bits.{putBit, bitAt, wiped, copied}
 use Rattle.workspace.proofs.Spans.{lt-or-le}
 use Rattle.workspace.proofs.Words.{of-four}
 use Rattle.workspace.proofs.Bits.{length-wiped, wiped-bit, wiped-apart, copied-bit, copied-apart}
-use Rattle.sheet.specs.declared.Fields.{Fields}
-use Rattle.sheet.specs.declared.Trailer.{Trailer}
-use Rattle.sheet.specs.Readers.{trailerOf, RowRead}
-use Rattle.sheet.proofs.Good.{good}
-use Rattle.sheet.proofs.Contents.{text-length}
+use Rattle.sheet_trailer.specs.declared.Table.{Table}
+use Rattle.sheet.proofs.Contents.{text-few}
 use Rattle.rows.specs.Sets.{Nulls, Reached, RowsAt}
-use Rattle.rows.proofs.ByKind.{rows-few, rows-all, children}
+use Rattle.sheet.proofs.Rows.{rows-few, rows-all}
 use Rattle.groundwork.specs.Ground.{Ground, pairsAt, pairWord, Splits, someLetter}
-use Rattle.groundwork.specs.Laying.{Below, Closures, Ranges, textBit, NoTexts, Texts, Proper, PairOf, Paired, Pairs, LengthTold, Lengths}
+use Rattle.groundwork.specs.Laying.{Below, Closures, Ranges, textBit, NoTexts, Texts, PairOf, Paired, Pairs, LengthTold, Lengths}
 use Rattle.groundwork.proofs.Frame.{below-then, below-less, below-set, below-wiped, below-bit, put-same, put-other, put-apart}
 use Rattle.groundwork.proofs.ByKind.{no-row-letter, splits-which}
-
--- ---- the rows of an accepted sheet
-
-pub rows-at : (s : List ℕ) (t : Trailer) → refusal s ≡ 0 → t ≡ trailerOf s → RowsAt s (t .«rows_at») (t .rows)
-unfolding trailerOf
-rows-at s t e p = record { accepted = e; start = ap (λ (t : Trailer). t .«rows_at») p; count = ap (λ (t : Trailer). t .rows) p }
-
-module _ {s : List ℕ} {at n i : ℕ} {f : Fields} (here : RowsAt s at n) (r : RowRead s i f) where
-  pub proper : Proper (f .kind) (f .a) (f .b)
-  proper = (r .facts .least, r .facts .most, λ h. let z = children here r h in (omega (arith, z .0, rows-few here), omega (arith, z .1, rows-few here)))
 
 -- ---- reach and the empty words
 
@@ -106,9 +92,6 @@ pub texts-wiped : (ws a b c d : List ℕ) → a ≡ wiped ws 258 → b ≡ wiped
 texts-wiped ws a b c d p q r s long =
     rw (s, r, q, p)
     (no-texts ws long, below-then (below-wiped ws 258 (omega arith)) (below-then (below-wiped _ 259 (omega arith)) (below-then (below-wiped _ 260 (omega arith)) (below-wiped _ 261 (omega arith)))))
-
-pub text-few : (s text : List ℕ) → refusal s ≡ 0 → text ≡ textOf s → length text ≤ 1024
-text-few s text e p = omega (arith, ap length p, text-length s e, good s e .counts 1 (omega arith) .1)
 
 -- the bit of another byte is kept
 text-other : (ws : List ℕ) (n : ℕ) (on : Bool) (k : ℕ) → k ≢ n → textBit (putBit on ws (258 + n / 256) (n % 256)) k ≡ textBit ws k
@@ -220,10 +203,10 @@ module _ (s : Sheet) (n : ℕ) (all-rows : n ≡ length (s .grammar .rows)) (few
       mask : getD (set (set d 1304 x) 1305 j) 1304 0 ≡ x
       mask = getD-set-other (set d 1304 x) 1305 1304 j 0 (λ e. omega arith) ∙ getD-set-same d 1304 x 0 (omega (arith, n1, length-set d 1304 x))
 
-module _ {s : List ℕ} {at n : ℕ} (here : RowsAt s at n) where
+module _ {s : List ℕ} {t : Table} (here : RowsAt s t) where
   pub laid : (j x : ℕ) (a b c d : List ℕ) → length a ≡ 1306
-      → Closures (grammarOf s) a → Ranges (sheetOf s) (grammarOf s) n b → Below 1028 a b
+      → Closures (grammarOf s) a → Ranges (sheetOf s) (grammarOf s) (t .count) b → Below 1028 a b
       → Texts (sheetOf s) (textOf s) (length (textOf s)) c → Below 1032 b c
-      → Pairs (grammarOf s) n j d → Below 1048 c d → Lengths (grammarOf s) n x → Ground (sheetOf s) (set (set d 1304 x) 1305 j)
+      → Pairs (grammarOf s) (t .count) j d → Below 1048 c d → Lengths (grammarOf s) (t .count) x → Ground (sheetOf s) (set (set d 1304 x) 1305 j)
   unfolding sheetOf grammarOf
-  laid = laid-of (sheetOf s) n (rows-all here) (rows-few here) (text-few s (textOf s) (here .accepted) refl)
+  laid = laid-of (sheetOf s) (t .count) (rows-all (here .table)) (rows-few (here .good) (here .table)) (text-few s (here .good) (textOf s) refl)

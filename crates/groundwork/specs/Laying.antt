@@ -1,13 +1,13 @@
 -- What each step leaves while the groundwork is laid. The steps write at rising words, so one frame serves: a step keeps the words below its own.
 use Prim.Native.Nat.{ℕ, _+_, _/_, _%_, _<_, _≤_}
 use mathlib.Core.Path.{_≡_}
-use mathlib.Core.Bool.{Bool, false, cond}
+use mathlib.Core.Bool.{Bool, false}
 use mathlib.Core.List.{List}
 use lib.ListN.{length, getD}
 use Rattle.paper.specs.Rows.{Row, Text, Grammar, row}
 use Rattle.paper.specs.Decide.{nullable, reaches}
 use Rattle.paper.specs.Sheet.{Sheet, letter}
-use Rattle.workspace.specs.Bits.{bit, bitAt, setBit}
+use Rattle.workspace.specs.Bits.{bit, bitAt}
 use Rattle.groundwork.specs.Ground.{pairsAt, pairWord, Splits, someLetter}
 
 -- the words below k are kept
@@ -41,10 +41,6 @@ NoTexts ws = (k : ℕ) → k < 1024 → textBit ws k ≡ false
 pub record Texts (s : Sheet) (text : List ℕ) (n : ℕ) (ws : List ℕ) : Type 0 where
   pub told : (k : ℕ) → k < n → textBit ws k ≡ letter s (getD text k 0)
   pub later : (k : ℕ) → n ≤ k → k < 1024 → textBit ws k ≡ false
-
--- a row's kind is one of the six, and its children, if it has any, are below 256
-abbrev pub Proper : (kind a b : ℕ) → Type 0
-Proper kind a b = (1 ≤ kind) × (kind ≤ 6) × (4 ≤ kind → (a < 256) × (b < 256))
 
 -- the word x is the pair of row q, given as a row
 abbrev pub PairOf : (q : ℕ) → Row → ℕ → Type 0

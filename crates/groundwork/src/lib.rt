@@ -2,27 +2,31 @@
 ghost use mathlib.Core.Path.{_≡_};
 ghost use Prim.Native.Nat.{_+_, _*_, _≤_, _<_};
 ghost use lib.ListN.{length};
-ghost use Rattle.paper.specs.Refusals.{refusal};
-ghost use Rattle.paper.specs.Rows.{Range, rowOf};
+ghost use Rattle.paper.specs.Rows.{Range};
 ghost use Rattle.paper.specs.Sheet.{textOf, grammarOf, sheetOf};
+ghost use Rattle.paper.proofs.Sound.{SoundRow};
+ghost use Rattle.sheet_contents.specs.Read.{asRow};
+ghost use Rattle.sheet.specs.Good.{Good};
 ghost use Rattle.rows.specs.Sets.{RowsAt};
 ghost use Rattle.groundwork.specs.Ground.{Ground, someLetter, pairWord};
-ghost use Rattle.groundwork.specs.Laying.{Below, Closures, Ranges, NoTexts, Texts, Proper, Paired, Pairs, LengthTold, Lengths};
+ghost use Rattle.groundwork.specs.Laying.{Below, Closures, Ranges, NoTexts, Texts, Paired, Pairs, LengthTold, Lengths};
+use sheet_contents::Row;
+use sheet_trailer::Table;
 
 // The rows that reach each row, and the rows that derive the empty word.
-fn closures(s: &[u8], at: usize, n: usize, out: &mut [u64])
-    requires { ⌜ RowsAt (now s) at n × (length (now out) ≡ 1306) ⌝ }
+fn closures(s: &[u8], t: Table, out: &mut [u64])
+    requires { ⌜ RowsAt (now s) t × (length (now out) ≡ 1306) ⌝ }
     ensures { λ _. ⌜ Closures (grammarOf (now (s .entry))) (now (out .exit)) ⌝ }
 {
     let mut empty = [0u64; 4];
-    rows::nulls(s, at, n, &mut empty);
-    rows::reach(s, at, n, &empty, out);
+    rows::nulls(s, t, &mut empty);
+    rows::reach(s, t, &empty, out);
     workspace::copy(out, 256, &empty, 0);
 }
 
 // Some byte from low to high is a letter.
 fn letter_in(s: &[u8], low: usize, high: usize) -> bool
-    requires { ⌜ (refusal (now s) ≡ 0) × (low ≤ high) × (high ≤ 255) ⌝ }
+    requires { ⌜ Good (now s) × (low ≤ high) × (high ≤ 255) ⌝ }
     ensures { λ r. ⌜ r ≡ someLetter (sheetOf (now (s .entry))) (Range low high) ⌝ }
 {
     let n = high + 1 - low;
@@ -37,26 +41,29 @@ fn letter_in(s: &[u8], low: usize, high: usize) -> bool
 }
 
 // The row is a range that holds a letter.
-fn holds_letter(s: &[u8], f: sheet::Fields) -> bool
-    requires { ⌜ (refusal (now s) ≡ 0) × (f .kind ≡ 2 → (f .a ≤ f .b) × (f .b ≤ 255)) ⌝ }
-    ensures { λ r. ⌜ r ≡ someLetter (sheetOf (now (s .entry))) (rowOf (f .kind) (f .a) (f .b)) ⌝ }
+fn holds_letter(s: &[u8], r: Row) -> bool
+    requires { ⌜ Good (now s) × SoundRow 1024 256 (asRow r) ⌝ }
+    ensures { λ b. ⌜ b ≡ someLetter (sheetOf (now (s .entry))) (asRow r) ⌝ }
 {
-    if f.kind == 2 {
-        return letter_in(s, f.a, f.b);
+    match r {
+        Row::Range(low, high) => letter_in(s, low, high),
+        Row::Empty => false,
+        Row::Text(_, _) => false,
+        Row::Alt(_, _) => false,
+        Row::Seq(_, _) => false,
+        Row::Star(_) => false,
     }
-    false
 }
 
 // The ranges that hold a letter.
-fn ranges(s: &[u8], at: usize, n: usize, out: &mut [u64])
-    requires { ⌜ RowsAt (now s) at n × (length (now out) ≡ 1306) ⌝ }
-    ensures { λ _. ⌜ Ranges (sheetOf (now (s .entry))) (grammarOf (now (s .entry))) n (now (out .exit)) × Below 1028 (now (out .entry)) (now (out .exit)) ⌝ }
+fn ranges(s: &[u8], t: Table, out: &mut [u64])
+    requires { ⌜ RowsAt (now s) t × (length (now out) ≡ 1306) ⌝ }
+    ensures { λ _. ⌜ Ranges (sheetOf (now (s .entry))) (grammarOf (now (s .entry))) (t .count) (now (out .exit)) × Below 1028 (now (out .entry)) (now (out .exit)) ⌝ }
 {
     workspace::wipe(out, 257);
     let mut q = 0;
-    while q < n {
-        let f = sheet::row_at(s, at, q);
-        let on = holds_letter(s, f);
+    while q < t.count {
+        let on = holds_letter(s, sheet::row_at(s, t, q));
         workspace::put(out, 257, q, on);
         q += 1;
     }
@@ -75,7 +82,7 @@ fn wipe_texts(out: &mut [u64])
 
 // The bytes of the text that are letters.
 fn texts(s: &[u8], text: &[u8], out: &mut [u64])
-    requires { ⌜ (refusal (now s) ≡ 0) × (now text ≡ textOf (now s)) × (length (now out) ≡ 1306) ⌝ }
+    requires { ⌜ Good (now s) × (now text ≡ textOf (now s)) × (length (now out) ≡ 1306) ⌝ }
     ensures { λ _. ⌜ Texts (sheetOf (now (s .entry))) (now (text .entry)) (length (now (text .entry))) (now (out .exit)) × Below 1032 (now (out .entry)) (now (out .exit)) ⌝ }
 {
     wipe_texts(out);
@@ -96,64 +103,68 @@ fn pair_word(q: usize, a: usize, b: usize) -> u64
 }
 
 // Row q's pair, if it splits, as word j of the pairs. The number of the next word.
-fn pair(out: &mut [u64], j: usize, q: usize, f: sheet::Fields) -> usize
-    requires { ⌜ (j ≤ q) × (q < 256) × Proper (f .kind) (f .a) (f .b) × (length (now out) ≡ 1306) ⌝ }
-    ensures { λ m. ⌜ Paired q (rowOf (f .kind) (f .a) (f .b)) j m (now (out .entry)) (now (out .exit)) ⌝ }
+fn pair(out: &mut [u64], j: usize, q: usize, r: Row) -> usize
+    requires { ⌜ (j ≤ q) × (q < 256) × SoundRow 1024 256 (asRow r) × (length (now out) ≡ 1306) ⌝ }
+    ensures { λ m. ⌜ Paired q (asRow r) j m (now (out .entry)) (now (out .exit)) ⌝ }
 {
-    let kind = f.kind;
-    match kind {
-        5 => {
-            out[1048 + j] = pair_word(q, f.a, f.b);
+    match r {
+        Row::Seq(a, b) => {
+            out[1048 + j] = pair_word(q, a, b);
             j + 1
         }
-        6 => {
-            out[1048 + j] = pair_word(q, f.a, q);
+        Row::Star(a) => {
+            out[1048 + j] = pair_word(q, a, q);
             j + 1
         }
-        _ => j,
+        Row::Empty => j,
+        Row::Range(_, _) => j,
+        Row::Text(_, _) => j,
+        Row::Alt(_, _) => j,
     }
 }
 
 // The pairs, one for each row that splits. Their number.
-fn pairs(s: &[u8], at: usize, n: usize, out: &mut [u64]) -> usize
-    requires { ⌜ RowsAt (now s) at n × (length (now out) ≡ 1306) ⌝ }
-    ensures { λ j. ⌜ Pairs (grammarOf (now (s .entry))) n j (now (out .exit)) × Below 1048 (now (out .entry)) (now (out .exit)) ⌝ }
+fn pairs(s: &[u8], t: Table, out: &mut [u64]) -> usize
+    requires { ⌜ RowsAt (now s) t × (length (now out) ≡ 1306) ⌝ }
+    ensures { λ j. ⌜ Pairs (grammarOf (now (s .entry))) (t .count) j (now (out .exit)) × Below 1048 (now (out .entry)) (now (out .exit)) ⌝ }
 {
     let mut j = 0;
     let mut q = 0;
-    while q < n {
-        let f = sheet::row_at(s, at, q);
-        j = pair(out, j, q, f);
+    while q < t.count {
+        j = pair(out, j, q, sheet::row_at(s, t, q));
         q += 1;
     }
     j
 }
 
 // The mask with the length of a text row besides: a term has at most 60 bytes.
-fn tell_length(mask: u64, f: sheet::Fields) -> u64
-    requires { ⌜ (1 ≤ f .kind) × (f .kind ≤ 6) ⌝ }
-    ensures { λ r. ⌜ LengthTold (rowOf (f .kind) (f .a) (f .b)) mask r ⌝ }
+fn tell_length(mask: u64, r: Row) -> u64
+    ensures { λ m. ⌜ LengthTold (asRow r) mask m ⌝ }
 {
-    if f.kind != 3 {
-        return mask;
+    match r {
+        Row::Text(_, b) => {
+            if b > 60 {
+                return mask;
+            }
+            mask | (1u64 << b)
+        }
+        Row::Empty => mask,
+        Row::Range(_, _) => mask,
+        Row::Alt(_, _) => mask,
+        Row::Seq(_, _) => mask,
+        Row::Star(_) => mask,
     }
-    let b = f.b;
-    if b > 60 {
-        return mask;
-    }
-    mask | (1u64 << b)
 }
 
 // The lengths of the text rows, a bit each.
-fn lengths(s: &[u8], at: usize, n: usize) -> u64
-    requires { ⌜ RowsAt (now s) at n ⌝ }
-    ensures { λ mask. ⌜ Lengths (grammarOf (now (s .entry))) n mask ⌝ }
+fn lengths(s: &[u8], t: Table) -> u64
+    requires { ⌜ RowsAt (now s) t ⌝ }
+    ensures { λ mask. ⌜ Lengths (grammarOf (now (s .entry))) (t .count) mask ⌝ }
 {
     let mut mask: u64 = 0;
     let mut q = 0;
-    while q < n {
-        let f = sheet::row_at(s, at, q);
-        mask = tell_length(mask, f);
+    while q < t.count {
+        mask = tell_length(mask, sheet::row_at(s, t, q));
         q += 1;
     }
     mask
@@ -161,16 +172,14 @@ fn lengths(s: &[u8], at: usize, n: usize) -> u64
 
 // The groundwork of an accepted sheet.
 pub fn lay(s: &[u8], out: &mut [u64])
-    requires { ⌜ (refusal (now s) ≡ 0) × (length (now out) ≡ 1306) ⌝ }
+    requires { ⌜ Good (now s) × (length (now out) ≡ 1306) ⌝ }
     ensures { λ _. ⌜ Ground (sheetOf (now (s .entry))) (now (out .exit)) ⌝ }
 {
-    let t = sheet::trailer_of(s);
-    let at = t.rows_at;
-    let n = t.rows;
-    closures(s, at, n, out);
-    ranges(s, at, n, out);
+    let t = sheet_trailer::table_of(s, 2);
+    closures(s, t, out);
+    ranges(s, t, out);
     texts(s, sheet::text_of(s), out);
-    let j = pairs(s, at, n, out);
-    out[1304] = lengths(s, at, n);
+    let j = pairs(s, t, out);
+    out[1304] = lengths(s, t);
     out[1305] = j as u64;
 }

@@ -12,7 +12,8 @@ ghost use Prim.Native.Nat.{suc, _+_, _*_, _≤_, _<_};
 ghost use lib.ListN.{length};
 ghost use lib.Dec.{eqb, leb, ltb};
 ghost use Rattle.paper.specs.Tests.{allBelow};
-ghost use Rattle.paper.specs.Gate.{nOf, rowsOf, trailerOf, groupAt, headAt, headEnd, optionFields, optionOk, entryOk, groupOk, groupBegin, wellFormed};
+ghost use Rattle.paper.specs.Gate.{nOf, rowsOf, trailerOf, groupAt, headAt, headEnd, optionFields, optionOk, entryOk, groupOk, groupBegin};
+ghost use Rattle.paper.specs.Promises.{Admits};
 ghost use Rattle.list.specs.Read.{Trailed, optionFrom, pastOf};
 
 // 1 only at m = 1 with a ≤ b ≤ 255.
@@ -194,7 +195,7 @@ fn groups(list: &[u8], t: Trailer, text: usize) -> bool
 
 // Whether the list is well formed, with a text of so many bytes.
 pub fn well_formed(list: &[u8], text: usize) -> bool
-    ensures { λ r. ⌜ r ≡ wellFormed (now (list .entry)) text ⌝ }
+    ensures { λ r. ⌜ Admits (now (list .entry)) text r ⌝ }
 {
     if list.len() < 20 {
         return false;

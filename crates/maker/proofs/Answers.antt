@@ -15,6 +15,7 @@ use Rattle.paper.specs.Rows.{Grammar}
 use Rattle.paper.specs.Sheet.{grammarOf}
 use Rattle.paper.specs.Cuts.{groups, listTrailer, cutList}
 use Rattle.paper.specs.Answers.{written, makerRefusal, makerSays, spaceAfter}
+use Rattle.paper.specs.Promises.{Makes}
 use Rattle.paper.proofs.Gathered.{gather-length}
 use Rattle.paper.proofs.Encoding.{length-u32, length-list}
 use Rattle.sheet.specs.declared.Trailer.{Trailer}
@@ -25,7 +26,7 @@ use Rattle.maker_groups.specs.Parts.{Put, mark}
 use Rattle.maker_groups.proofs.Stores.{put-more, put-same, put-written}
 use Rattle.maker.specs.declared.Made.the-variants.{Written, Refused}
 use Rattle.maker.specs.Trailer.{offsetBytes, endingBytes, trailerBytes}
-use Rattle.maker.specs.Promise.{Promise}
+use Rattle.maker.specs.Reported.{reported}
 
 -- ---- the trailer, and the whole list
 
@@ -83,14 +84,14 @@ module _ (s : List ℕ) (row n space : ℕ) where
 
 module _ (s : List ℕ) (row n : ℕ) (old : List ℕ) where
   -- a refusal reports its number and changes nothing
-  pub answer-refused : (k : ℕ) → makerRefusal s row n (length old) ≡ k → (k ≡ 0 → ⊥) → Promise s row n old old (Refused k)
+  pub answer-refused : (k : ℕ) → makerRefusal s row n (length old) ≡ k → (k ≡ 0 → ⊥) → Makes s row n old (reported (Refused k)) old
   unfolding makerSays spaceAfter
-  answer-refused k e h = (rw (e, ne-eqb k 0 h), rw (e, ne-eqb k 0 h))
+  answer-refused k e h = record { said = rw (e, ne-eqb k 0 h); wrote = rw (e, ne-eqb k 0 h) }
 
   pub answer-written : (k : ℕ) (now : List ℕ) → makerRefusal s row n (length old) ≡ 0 → k ≡ length (cutList (grammarOf s) row n) → now ≡ written (cutList (grammarOf s) row n) old
-      → Promise s row n old now (Written k)
+      → Makes s row n old (reported (Written k)) now
   unfolding makerSays spaceAfter
-  answer-written k now e h w = (rw (e, h), rw e w)
+  answer-written k now e h w = record { said = rw (e, h); wrote = rw e w }
 
 -- the groups and the trailer, written one behind the other, are the list
 pub written-list : (g : Grammar) (root n rows p end : ℕ) (offsets a b c : List ℕ) → Offsets g (n + 1) offsets → rows ≡ length (g .rows) → length (cutList g root n) ≤ length a

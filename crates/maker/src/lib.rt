@@ -1,13 +1,12 @@
 // The maker of cut lists.
-ghost use mathlib.Core.Path.{_≡_};
 ghost use Prim.Native.Nat.{_+_, _*_, _≤_, _<_};
 ghost use lib.ListN.{length};
 ghost use Rattle.paper.specs.Tests.{gather};
-ghost use Rattle.paper.specs.Answers.{makerSays, spaceAfter};
+ghost use Rattle.paper.specs.Promises.{Makes};
 ghost use Rattle.maker_options.specs.Prepared.{JobOf};
 ghost use Rattle.maker_groups.specs.Parts.{Put};
 ghost use Rattle.maker.specs.Trailer.{offsetBytes, endingBytes, trailerBytes};
-ghost use Rattle.maker.specs.Promise.{reportOf};
+ghost use Rattle.maker.specs.Reported.{reported};
 use maker_groups::bytes;
 use maker_options::Job;
 use maker_options::ready;
@@ -58,7 +57,7 @@ fn put_trailer(list: &mut [u8], o: usize, offsets: &[usize], j: Job, root: usize
 // 22, or the list, of an accepted sheet, a row of it and a length of at most 60.
 fn fill(s: &[u8], j: Job, root: usize, list: &mut [u8]) -> Made
     requires { ⌜ JobOf (now s) j × (root < j .rows) ⌝ }
-    ensures { λ r. ⌜ (reportOf r ≡ makerSays (now (s .entry)) root (j .n) (length (now (list .entry)))) × (now (list .exit) ≡ spaceAfter (now (s .entry)) root (j .n) (now (list .entry))) ⌝ }
+    ensures { λ r. ⌜ Makes (now (s .entry)) root (j .n) (now (list .entry)) (reported r) (now (list .exit)) ⌝ }
 {
     let mut ws = [0u64; 1268];
     ready::prepare(s, j, &mut ws);
@@ -75,7 +74,7 @@ fn fill(s: &[u8], j: Job, root: usize, list: &mut [u8]) -> Made
 
 // The cut list of a sheet's row for the length n, at the start of the space lent.
 pub fn make(s: &[u8], row: u64, n: u64, list: &mut [u8]) -> Made
-    ensures { λ r. ⌜ (reportOf r ≡ makerSays (now (s .entry)) row n (length (now (list .entry)))) × (now (list .exit) ≡ spaceAfter (now (s .entry)) row n (now (list .entry))) ⌝ }
+    ensures { λ r. ⌜ Makes (now (s .entry)) row n (now (list .entry)) (reported r) (now (list .exit)) ⌝ }
 {
     let fault = sheet::number(sheet::check(s));
     if fault != 0 {

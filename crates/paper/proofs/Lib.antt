@@ -1,4 +1,5 @@
 pub mod Keys
+pub mod Coincide
 pub mod Tests
 pub mod Comparing
 pub mod Spelling

@@ -1,5 +1,5 @@
 -- "Little-endian": numbers of two and four bytes, the lowest byte first. Past the end of a run of bytes a byte reads as 0.
-use Prim.Native.Nat.{ℕ, _+_, _*_, _/_, _%_}
+use Prim.Native.Nat.{ℕ, _+_, _*_, _/_, _%_, _<_}
 use mathlib.Core.Bool.{Bool, _&&_}
 use mathlib.Core.List.{List, [], _∷_, _++_}
 use lib.Dec.{eqb}
@@ -8,6 +8,10 @@ use lib.ListN.{getD}
 -- the byte at o
 abbrev pub u8At : List ℕ → ℕ → ℕ
 u8At s o = getD s o 0
+
+-- a run of bytes, as whatever is lent as bytes is: each is below 256
+abbrev pub OfBytes : List ℕ → Type 0
+OfBytes s = (i : ℕ) → u8At s i < 256
 
 -- the number of two bytes at o
 unfoldable pub u16At : List ℕ → ℕ → ℕ

@@ -17,4 +17,5 @@ pub mod Cuts
 pub mod Gate
 pub mod Answers
 pub mod SheetBytes
+pub mod Promises
 pub mod Keys

@@ -7,7 +7,7 @@ use mathlib.Core.List.{List}
 use native.Mathlib.Decide.{ℕ-discrete}
 use native.Mathlib.Omega.{arith}
 use lib.ListN.{length}
-use Rattle.paper.specs.Rows.{Grammar, row, rowOf}
+use Rattle.paper.specs.Rows.{Row, Grammar, row}
 use Rattle.paper.specs.Decide.{has, closure, nullRow, nullRule, nullable}
 use Rattle.paper.proofs.Tests.{same-test}
 use Rattle.paper.proofs.Closure.{closure-closed, closure-least}
@@ -19,9 +19,9 @@ use Rattle.workspace.proofs.Room.{grows-not}
 use Rattle.rows.specs.Sets.{Nulls, NullSound, NullSettled}
 use Rattle.rows.specs.Passes.{Turn}
 
-module _ (g : Grammar) (r kind a b : ℕ) (is : rowOf kind a b ≡ row g r) (old : List ℕ) where
+module _ (g : Grammar) (r : ℕ) (x : Row) (is : x ≡ row g r) (old : List ℕ) where
   -- the rule asks for r: it is put in
-  pub null-yes : {new : Bool} {now : List ℕ} → r < length (g .rows) → r < 256 → 4 ≤ length old → nullRow (bitAt old 0) (rowOf kind a b) ≡ true → now ≡ setBit old 0 r → Grows new old now
+  pub null-yes : {new : Bool} {now : List ℕ} → r < length (g .rows) → r < 256 → 4 ≤ length old → nullRow (bitAt old 0) x ≡ true → now ≡ setBit old 0 r → Grows new old now
       → Turn (NullSound g) (NullSettled g) r new old now
   unfolding nullRule nullable
   null-yes {new} {now} l low room e p grows = record {
@@ -35,7 +35,7 @@ module _ (g : Grammar) (r kind a b : ℕ) (is : rowOf kind a b ≡ row g r) (old
       at s q (no k) h = s q (sym (set-bit-other old 0 r q k) ∙ rw p at h)
 
   -- it does not
-  pub null-no : nullRow (bitAt old 0) (rowOf kind a b) ≡ false → Turn (NullSound g) (NullSettled g) r false old old
+  pub null-no : nullRow (bitAt old 0) x ≡ false → Turn (NullSound g) (NullSettled g) r false old old
   unfolding nullRule
   null-no e = record { grows = grows-not old; sound = λ s. s; settled = λ z h. absurd (true≢false (sym h ∙ rw is at e)) }
 

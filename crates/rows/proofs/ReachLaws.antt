@@ -1,7 +1,7 @@
 -- The rows that reach each row: a step's turn, a row's turn, and the end.
 -- Assumes nothing.
 use Prim.Native.Nat.{ℕ, _+_, _*_, _≤_, _<_}
-use mathlib.Core.Path.{_≡_, refl, sym, _∙_, subst, fun-ext}
+use mathlib.Core.Path.{_≡_, refl, sym, ap, _∙_, subst, fun-ext}
 use mathlib.Core.Bool.{Bool, true, false, cond, _||_, true≢false}
 use mathlib.Core.Logic.{_⊎_, inl, inr}
 use mathlib.Core.List.{List}
@@ -10,14 +10,15 @@ use native.Mathlib.Omega.{arith}
 use lib.Dec.{eqb}
 use borrow.Author.Tests.{ne-eqb}
 use lib.ListN.{length}
-use Rattle.paper.specs.Rows.{Grammar, row, rowOf, Keeps, Reach}
+use Rattle.paper.specs.Rows.{Row, Grammar, row, Keeps, Reach}
 use Rattle.paper.specs.Decide.{nullable, reaches}
 use Rattle.paper.proofs.Tests.{same-test, or-cases, or-left, or-right, eqb-same, same-eqb}
 use Rattle.paper.proofs.Reaching.{reaches-sound, reaches-from, keeps-below}
 use Rattle.workspace.specs.Bits.{bitAt, setBit, wiped, joined}
 use Rattle.workspace.specs.Room.{Grows}
 use Rattle.workspace.proofs.Bits.{set-bit-same, set-bit-other, set-bit-apart, length-wiped, wiped-bit, wiped-apart, joined-bit, joined-apart}
-use Rattle.rows.specs.Sets.{firstStep, secondStep, StepsOf, passedOn, Started, Nulls, Reached, ReachSound, ReachSettled}
+use Rattle.rows.specs.declared.Steps.{Steps}
+use Rattle.rows.specs.Sets.{stepsOf, passedOn, Started, Nulls, Reached, ReachSound, ReachSettled}
 use Rattle.rows.specs.Passes.{Turn}
 use Rattle.rows.proofs.Passes.{grows-then}
 use Rattle.rows.proofs.ByKind.{first-keeps, second-keeps, keeps-led}
@@ -45,8 +46,8 @@ module _ (on : Bool) (p r : ℕ) (ws : List ℕ) where
   passed-no e = rw e
 
 -- steps by the bits are steps by the rows that derive the empty word
-pub steps-null : {g : Grammar} {ws : List ℕ} {n kind a b : ℕ} {x y : Bool} → Nulls g ws → StepsOf (bitAt ws 0) n kind a b x y → StepsOf (nullable g) n kind a b x y
-steps-null {n = n} {kind = kind} {a = a} {b = b} {x = x} {y = y} z s = subst (λ (u : ℕ → Bool). StepsOf u n kind a b x y) (fun-ext (z .bits)) s
+pub steps-null : {g : Grammar} {ws : List ℕ} {to : Steps} (x : Row) → Nulls g ws → to ≡ stepsOf (bitAt ws 0) x → to ≡ stepsOf (nullable g) x
+steps-null x z e = e ∙ ap (λ (u : ℕ → Bool). stepsOf u x) (fun-ext (z .bits))
 
 -- what reaches r is joined to what reaches p, where there is a step
 pub joined-sound : (g : Grammar) (ws : List ℕ) (p r : ℕ) → r < length (g .rows) → 4 * p + 4 ≤ length ws → Keeps g r p → ReachSound g ws → ReachSound g (joined ws p ws r)
@@ -65,35 +66,32 @@ joined-sound g ws p r l room k s = record { self = λ q h. mine q h (ℕ-discret
     at q x h e (no n) = s .right q x h (sym (joined-apart ws p ws r q x n) ∙ e)
 
 -- a row's turn: a step to a, then a step to b
-module _ (g : Grammar) (r kind a b : ℕ) (is : rowOf kind a b ≡ row g r) (l : r < length (g .rows)) {old mid now : List ℕ} {first second : Bool}
-    (p : first ≡ firstStep (nullable g) (rowOf kind a b)) (q : second ≡ secondStep (nullable g) (rowOf kind a b))
-    (ha : first ≡ true → 4 * a + 4 ≤ length old) (hb : second ≡ true → 4 * b + 4 ≤ length mid)
-    (e : mid ≡ passedOn first a r old) (f : now ≡ passedOn second b r mid) where
+module _ (g : Grammar) (r : ℕ) (x : Row) (is : x ≡ row g r) (l : r < length (g .rows)) {old mid now : List ℕ} {to : Steps} (steps : to ≡ stepsOf (nullable g) x)
+    (ha : to .first ≡ true → 4 * to .a + 4 ≤ length old) (hb : to .second ≡ true → 4 * to .b + 4 ≤ length mid)
+    (e : mid ≡ passedOn (to .first) (to .a) r old) (f : now ≡ passedOn (to .second) (to .b) r mid) where
   turn-sound : ReachSound g old → ReachSound g now
   unfolding passedOn
-  turn-sound s = rw f (two second refl (rw e (one first refl)))
+  turn-sound s = rw f (two (to .second) refl (rw e (one (to .first) refl)))
     where
-      one : (x : Bool) → first ≡ x → ReachSound g (cond x (joined old a old r) old)
-      one true z = joined-sound g old a r l (ha z) (first-keeps g r kind a b is (sym p ∙ z)) s
+      one : (on : Bool) → to .first ≡ on → ReachSound g (cond on (joined old (to .a) old r) old)
+      one true z = joined-sound g old (to .a) r l (ha z) (rw steps (first-keeps g r x is (rw steps at z))) s
       one false z = s
 
-      two : (x : Bool) → second ≡ x → ReachSound g mid → ReachSound g (cond x (joined mid b mid r) mid)
-      two true z m = joined-sound g mid b r l (hb z) (second-keeps g r kind a b is (sym q ∙ z)) m
+      two : (on : Bool) → to .second ≡ on → ReachSound g mid → ReachSound g (cond on (joined mid (to .b) mid r) mid)
+      two true z m = joined-sound g mid (to .b) r l (hb z) (rw steps (second-keeps g r x is (rw steps at z))) m
       two false z m = m
 
   turn-settled : mid ≡ old → now ≡ mid → ReachSettled g now r
   unfolding passedOn
-  turn-settled same same′ t x k h = at (keeps-led g r kind a b is t k)
+  turn-settled same same′ t q k h = at (rw (← is, ← steps) at (keeps-led g r t k))
     where
-      at : ((t ≡ a) × (firstStep (nullable g) (rowOf kind a b) ≡ true)) ⊎ ((t ≡ b) × (secondStep (nullable g) (rowOf kind a b) ≡ true)) → bitAt now t x ≡ true
+      at : ((t ≡ to .a) × (to .first ≡ true)) ⊎ ((t ≡ to .b) × (to .second ≡ true)) → bitAt now t q ≡ true
       at (inl z) =
-          let on : first ≡ true = p ∙ z .1 in
-          let there : mid ≡ joined old a old r = e ∙ rw on in
-          rw (z .0, same′, there, joined-bit old a old r (ha on) x) (or-right (bitAt old a x) (bitAt old r x) (rw (same′, same) at h))
+          let there : mid ≡ joined old (to .a) old r = e ∙ rw (z .1) in
+          rw (z .0, same′, there, joined-bit old (to .a) old r (ha (z .1)) q) (or-right (bitAt old (to .a) q) (bitAt old r q) (rw (same′, same) at h))
       at (inr z) =
-          let on : second ≡ true = q ∙ z .1 in
-          let there : now ≡ joined mid b mid r = f ∙ rw on in
-          rw (z .0, there, joined-bit mid b mid r (hb on) x) (or-right (bitAt mid b x) (bitAt mid r x) (rw same′ at h))
+          let there : now ≡ joined mid (to .b) mid r = f ∙ rw (z .1) in
+          rw (z .0, there, joined-bit mid (to .b) mid r (hb (z .1)) q) (or-right (bitAt mid (to .b) q) (bitAt mid r q) (rw same′ at h))
 
   pub reach-turned : (x y : Bool) {new : Bool} → Grows x old mid → Grows y mid now → new ≡ (x || y) → Turn (ReachSound g) (ReachSettled g) r new old now
   reach-turned x y gx gy n = record {

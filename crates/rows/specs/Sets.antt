@@ -1,15 +1,17 @@
 -- The two sets that are made once a call, as bits of a table: the rows that derive the empty word, and for each row the rows that reach it.
-use Prim.Native.Nat.{ℕ, _<_, _≤_}
+use Prim.Native.Nat.{ℕ, _<_}
 use mathlib.Core.Path.{_≡_}
 use mathlib.Core.Bool.{Bool, true, false, cond}
 use mathlib.Core.List.{List}
 use lib.Dec.{eqb}
 use lib.ListN.{length}
-use Rattle.paper.specs.Trailer.{offsetOf, countOf}
-use Rattle.paper.specs.Refusals.{refusal}
-use Rattle.paper.specs.Rows.{Row, Empty, Range, Text, Alt, Seq, Star, Grammar, rowOf, Keeps, Reach}
+use Rattle.paper.specs.Rows.{Row, Empty, Range, Text, Alt, Seq, Star, Grammar, Keeps, Reach}
 use Rattle.paper.specs.Decide.{nullRule, nullable, reaches}
 use Rattle.workspace.specs.Bits.{bitAt, joined}
+use Rattle.sheet_trailer.specs.declared.Table.{Table}
+use Rattle.sheet_trailer.specs.Tables.{TableOf}
+use Rattle.sheet.specs.Good.{Good}
+use Rattle.rows.specs.declared.Steps.{Steps}
 
 -- entry 0 holds the rows that derive the empty word
 pub record Nulls (g : Grammar) (ws : List ℕ) : Type 0 where
@@ -19,40 +21,23 @@ pub record Nulls (g : Grammar) (ws : List ℕ) : Type 0 where
 pub record Reached (g : Grammar) (ws : List ℕ) : Type 0 where
   pub bits : (q r : ℕ) → q < length (g .rows) → bitAt ws q r ≡ reaches g r q
 
--- a row's children are among n rows
-abbrev pub Inside : (n kind a b : ℕ) → Type 0
-Inside n kind a b = 4 ≤ kind → (a < n) × (b < n)
+-- t is where the rows of an accepted sheet lie
+pub record RowsAt (s : List ℕ) (t : Table) : Type 0 where
+  pub good : Good s
+  pub table : TableOf s 2 t
 
--- the n rows of an accepted sheet begin at `at`
-pub record RowsAt (s : List ℕ) (at n : ℕ) : Type 0 where
-  pub accepted : refusal s ≡ 0
-  pub start : at ≡ offsetOf s 2
-  pub count : n ≡ countOf s 2
+-- a step that keeps the length leads to child a where `first` says so, and to child b where `second` does
+abbrev pub stepsTo : ℕ → Bool → ℕ → Bool → Steps
+stepsTo a first b second = record { a = a; first = first; b = b; second = second }
 
--- a step that keeps the length leads from a row to its child a, given the rows that derive the empty word
-unfoldable pub firstStep : (ℕ → Bool) → Row → Bool
-firstStep null Empty = false
-firstStep null (Range lo hi) = false
-firstStep null (Text off len) = false
-firstStep null (Alt a b) = true
-firstStep null (Seq a b) = null b
-firstStep null (Star a) = true
-
--- .. to its child b
-unfoldable pub secondStep : (ℕ → Bool) → Row → Bool
-secondStep null Empty = false
-secondStep null (Range lo hi) = false
-secondStep null (Text off len) = false
-secondStep null (Alt a b) = true
-secondStep null (Seq a b) = null a
-secondStep null (Star a) = false
-
--- the steps of a row to its children, and that those are among n rows
-pub record StepsOf (null : ℕ → Bool) (n kind a b : ℕ) (first second : Bool) : Type 0 where
-  pub left : first ≡ firstStep null (rowOf kind a b)
-  pub right : second ≡ secondStep null (rowOf kind a b)
-  pub left-in : first ≡ true → a < n
-  pub right-in : second ≡ true → b < n
+-- the steps of a row to its children, given the rows that derive the empty word
+unfoldable pub stepsOf : (ℕ → Bool) → Row → Steps
+stepsOf null Empty = stepsTo 0 false 0 false
+stepsOf null (Range lo hi) = stepsTo 0 false 0 false
+stepsOf null (Text off len) = stepsTo 0 false 0 false
+stepsOf null (Alt a b) = stepsTo a true b true
+stepsOf null (Seq a b) = stepsTo a (null b) b (null a)
+stepsOf null (Star a) = stepsTo a true 0 false
 
 -- where there is a step from r to p, what reaches r is joined to what reaches p
 unfoldable pub passedOn : Bool → (p r : ℕ) → List ℕ → List ℕ

@@ -4,13 +4,16 @@ ghost use mathlib.Core.Path.{_≡_};
 ghost use mathlib.Core.Bool.{true};
 ghost use Prim.Native.Nat.{_+_, _*_, _≤_, _<_};
 ghost use lib.ListN.{length};
-ghost use Rattle.paper.specs.Rows.{rowOf};
 ghost use Rattle.paper.specs.Sheet.{grammarOf};
 ghost use Rattle.paper.specs.Decide.{nullRow};
+ghost use Rattle.paper.proofs.Sound.{SoundRow};
 ghost use Rattle.workspace.specs.Bits.{bitAt};
 ghost use Rattle.workspace.specs.Room.{Grows};
-ghost use Rattle.rows.specs.Sets.{Nulls, Reached, Inside, RowsAt, Started, StepsOf, passedOn, NullSound, NullSettled, ReachSound, ReachSettled};
+ghost use Rattle.sheet_contents.specs.Read.{asRow};
+ghost use Rattle.rows.specs.Sets.{Nulls, Reached, RowsAt, Started, stepsTo, stepsOf, passedOn, NullSound, NullSettled, ReachSound, ReachSettled};
 ghost use Rattle.rows.specs.Passes.{turnOf, Turn, Pass};
+use sheet_contents::Row;
+use sheet_trailer::Table;
 
 // The row whose turn is turn j of n, in rising or in falling order.
 fn turn_of(down: bool, n: usize, j: usize) -> usize
@@ -21,42 +24,43 @@ fn turn_of(down: bool, n: usize, j: usize) -> usize
 }
 
 // Whether a row derives the empty word, given the rows that do.
-fn null_row(nulls: &[u64], f: sheet::Fields) -> bool
-    requires { ⌜ (4 ≤ length (now nulls)) × Inside 256 (f .kind) (f .a) (f .b) ⌝ }
-    ensures { λ r. ⌜ r ≡ nullRow (bitAt (now (nulls .entry)) 0) (rowOf (f .kind) (f .a) (f .b)) ⌝ }
+fn null_row(nulls: &[u64], r: Row) -> bool
+    requires { ⌜ (4 ≤ length (now nulls)) × SoundRow 1024 256 (asRow r) ⌝ }
+    ensures { λ x. ⌜ x ≡ nullRow (bitAt (now (nulls .entry)) 0) (asRow r) ⌝ }
 {
-    let kind = f.kind;
-    match kind {
-        1 | 6 => true,
-        3 => f.b == 0,
-        4 => workspace::test(nulls, 0, f.a) || workspace::test(nulls, 0, f.b),
-        5 => workspace::test(nulls, 0, f.a) && workspace::test(nulls, 0, f.b),
-        _ => false,
+    match r {
+        Row::Empty => true,
+        Row::Range(_, _) => false,
+        Row::Text(_, len) => len == 0,
+        Row::Alt(a, b) => workspace::test(nulls, 0, a) || workspace::test(nulls, 0, b),
+        Row::Seq(a, b) => workspace::test(nulls, 0, a) && workspace::test(nulls, 0, b),
+        Row::Star(_) => true,
     }
 }
 
 // Row r's turn. Whether it is new.
-fn null_turn(s: &[u8], at: usize, n: usize, out: &mut [u64], r: usize) -> bool
-    requires { ⌜ RowsAt (now s) at n × (r < n) × (4 ≤ length (now out)) ⌝ }
+fn null_turn(s: &[u8], t: Table, out: &mut [u64], r: usize) -> bool
+    requires { ⌜ RowsAt (now s) t × (r < t .count) × (4 ≤ length (now out)) ⌝ }
     ensures { λ new. ⌜ Turn (NullSound (grammarOf (now (s .entry)))) (NullSettled (grammarOf (now (s .entry)))) r new (now (out .entry)) (now (out .exit)) ⌝ }
 {
-    let f = sheet::row_at(s, at, r);
-    if null_row(out, f) {
+    let row = sheet::row_at(s, t, r);
+    if null_row(out, row) {
         return workspace::mark(out, 0, r);
     }
     false
 }
 
 // One pass. Whether a row is new.
-fn null_pass(s: &[u8], at: usize, n: usize, out: &mut [u64], down: bool) -> bool
-    requires { ⌜ RowsAt (now s) at n × (4 ≤ length (now out)) ⌝ }
-    ensures { λ new. ⌜ Pass (NullSound (grammarOf (now (s .entry)))) (NullSettled (grammarOf (now (s .entry)))) n new (now (out .entry)) (now (out .exit)) ⌝ }
+fn null_pass(s: &[u8], t: Table, out: &mut [u64], down: bool) -> bool
+    requires { ⌜ RowsAt (now s) t × (4 ≤ length (now out)) ⌝ }
+    ensures { λ new. ⌜ Pass (NullSound (grammarOf (now (s .entry)))) (NullSettled (grammarOf (now (s .entry)))) (t .count) new (now (out .entry)) (now (out .exit)) ⌝ }
 {
+    let n = t.count;
     let mut new = false;
     let mut j = 0;
     while j < n {
         let r = turn_of(down, n, j);
-        if null_turn(s, at, n, out, r) {
+        if null_turn(s, t, out, r) {
             new = true;
         }
         j += 1;
@@ -65,48 +69,55 @@ fn null_pass(s: &[u8], at: usize, n: usize, out: &mut [u64], down: bool) -> bool
 }
 
 // The rows that derive the empty word, into entry 0.
-pub fn nulls(s: &[u8], at: usize, n: usize, out: &mut [u64])
-    requires { ⌜ RowsAt (now s) at n × (4 ≤ length (now out)) ⌝ }
+pub fn nulls(s: &[u8], t: Table, out: &mut [u64])
+    requires { ⌜ RowsAt (now s) t × (4 ≤ length (now out)) ⌝ }
     ensures { λ _. ⌜ Nulls (grammarOf (now (s .entry))) (now (out .exit)) ⌝ }
 {
     workspace::wipe(out, 0);
     let mut down = false;
     loop {
-        if !null_pass(s, at, n, out, down) {
+        if !null_pass(s, t, out, down) {
             return;
         }
         down = !down;
     }
 }
 
-// To which children a row has a step that keeps the length.
+// A row's children, and whether a step that keeps the length leads to each.
 struct Steps {
+    a: usize,
     first: bool,
+    b: usize,
     second: bool,
 }
 
-fn steps_of(nulls: &[u64], n: usize, f: sheet::Fields) -> Steps
-    requires { ⌜ (4 ≤ length (now nulls)) × (n ≤ 256) × Inside n (f .kind) (f .a) (f .b) ⌝ }
-    ensures { λ r. ⌜ StepsOf (bitAt (now (nulls .entry)) 0) n (f .kind) (f .a) (f .b) (r .first) (r .second) ⌝ }
+fn steps_to(a: usize, first: bool, b: usize, second: bool) -> Steps
+    ensures { λ r. ⌜ r ≡ stepsTo a first b second ⌝ }
 {
-    let kind = f.kind;
-    match kind {
-        4 => Steps {
-            first: true,
-            second: true,
-        },
-        5 => Steps {
-            first: workspace::test(nulls, 0, f.b),
-            second: workspace::test(nulls, 0, f.a),
-        },
-        6 => Steps {
-            first: true,
-            second: false,
-        },
-        _ => Steps {
-            first: false,
-            second: false,
-        },
+    Steps {
+        a,
+        first,
+        b,
+        second,
+    }
+}
+
+fn steps_of(nulls: &[u64], r: Row) -> Steps
+    requires { ⌜ (4 ≤ length (now nulls)) × SoundRow 1024 256 (asRow r) ⌝ }
+    ensures { λ x. ⌜ x ≡ stepsOf (bitAt (now (nulls .entry)) 0) (asRow r) ⌝ }
+{
+    match r {
+        Row::Empty => steps_to(0, false, 0, false),
+        Row::Range(_, _) => steps_to(0, false, 0, false),
+        Row::Text(_, _) => steps_to(0, false, 0, false),
+        Row::Alt(a, b) => steps_to(a, true, b, true),
+        Row::Seq(a, b) => steps_to(
+            a,
+            workspace::test(nulls, 0, b),
+            b,
+            workspace::test(nulls, 0, a),
+        ),
+        Row::Star(a) => steps_to(a, true, 0, false),
     }
 }
 
@@ -122,30 +133,28 @@ fn pass_on(out: &mut [u64], on: bool, p: usize, r: usize) -> bool
 }
 
 // Row r's turn. Whether something is new.
-fn reach_turn(s: &[u8], at: usize, n: usize, nulls: &[u64], out: &mut [u64], r: usize) -> bool
-    requires { ⌜ RowsAt (now s) at n × (r < n) × (4 ≤ length (now nulls)) × Nulls (grammarOf (now s)) (now nulls) × (4 * n ≤ length (now out)) ⌝ }
+fn reach_turn(s: &[u8], t: Table, nulls: &[u64], out: &mut [u64], r: usize) -> bool
+    requires { ⌜ RowsAt (now s) t × (r < t .count) × (4 ≤ length (now nulls)) × Nulls (grammarOf (now s)) (now nulls) × (4 * t .count ≤ length (now out)) ⌝ }
     ensures { λ new. ⌜ Turn (ReachSound (grammarOf (now (s .entry)))) (ReachSettled (grammarOf (now (s .entry)))) r new (now (out .entry)) (now (out .exit)) ⌝ }
 {
-    let f = sheet::row_at(s, at, r);
-    let to = steps_of(nulls, n, f);
-    let x = pass_on(out, to.first, f.a, r);
-    let y = pass_on(out, to.second, f.b, r);
-    if x {
-        return true;
-    }
-    y
+    let row = sheet::row_at(s, t, r);
+    let to = steps_of(nulls, row);
+    let x = pass_on(out, to.first, to.a, r);
+    let y = pass_on(out, to.second, to.b, r);
+    x | y
 }
 
 // One pass. Whether something is new.
-fn reach_pass(s: &[u8], at: usize, n: usize, nulls: &[u64], out: &mut [u64], down: bool) -> bool
-    requires { ⌜ RowsAt (now s) at n × (4 ≤ length (now nulls)) × Nulls (grammarOf (now s)) (now nulls) × (4 * n ≤ length (now out)) ⌝ }
-    ensures { λ new. ⌜ Pass (ReachSound (grammarOf (now (s .entry)))) (ReachSettled (grammarOf (now (s .entry)))) n new (now (out .entry)) (now (out .exit)) ⌝ }
+fn reach_pass(s: &[u8], t: Table, nulls: &[u64], out: &mut [u64], down: bool) -> bool
+    requires { ⌜ RowsAt (now s) t × (4 ≤ length (now nulls)) × Nulls (grammarOf (now s)) (now nulls) × (4 * t .count ≤ length (now out)) ⌝ }
+    ensures { λ new. ⌜ Pass (ReachSound (grammarOf (now (s .entry)))) (ReachSettled (grammarOf (now (s .entry)))) (t .count) new (now (out .entry)) (now (out .exit)) ⌝ }
 {
+    let n = t.count;
     let mut new = false;
     let mut j = 0;
     while j < n {
         let r = turn_of(down, n, j);
-        if reach_turn(s, at, n, nulls, out, r) {
+        if reach_turn(s, t, nulls, out, r) {
             new = true;
         }
         j += 1;
@@ -167,14 +176,14 @@ fn start(n: usize, out: &mut [u64])
 }
 
 // The rows that reach row q, into entry q.
-pub fn reach(s: &[u8], at: usize, n: usize, nulls: &[u64], out: &mut [u64])
-    requires { ⌜ RowsAt (now s) at n × (4 ≤ length (now nulls)) × Nulls (grammarOf (now s)) (now nulls) × (4 * n ≤ length (now out)) ⌝ }
+pub fn reach(s: &[u8], t: Table, nulls: &[u64], out: &mut [u64])
+    requires { ⌜ RowsAt (now s) t × (4 ≤ length (now nulls)) × Nulls (grammarOf (now s)) (now nulls) × (4 * t .count ≤ length (now out)) ⌝ }
     ensures { λ _. ⌜ Reached (grammarOf (now (s .entry))) (now (out .exit)) ⌝ }
 {
-    start(n, out);
+    start(t.count, out);
     let mut down = true;
     loop {
-        if !reach_pass(s, at, n, nulls, out, down) {
+        if !reach_pass(s, t, nulls, out, down) {
             return;
         }
         down = !down;

@@ -9,7 +9,7 @@ use native.Mathlib.Decide.{decLt}
 use borrow.Author.Tests.{le-ltb, leb-true}
 use lib.Dec.{leb, ltb}
 use Rattle.paper.specs.Tests.{anyBelow}
-use Rattle.paper.specs.Bytes.{u8At}
+use Rattle.paper.specs.Bytes.{u8At, OfBytes}
 use Rattle.paper.specs.Trailer.{countOf, recordAt}
 use Rattle.paper.specs.Sheet.{sheetOf, letter}
 use Rattle.paper.proofs.Tests.{any-none, any-suc, any-elim, and-right}
@@ -26,7 +26,7 @@ ranges-start s of h b = h b ∙ sym (any-none (inSpan s b))
 pub ranges-more : (s of r : List ℕ) (i : ℕ) → RangesTo s i of → Joined of (u8At s (recordAt s 0 i)) (u8At s (recordAt s 0 i + 1)) r → RangesTo s (i + 1) r
 ranges-more s of r i h j b = j b ∙ rw (h b) (sym (any-suc i (inSpan s b))) ∙ ap (λ (k : ℕ). anyBelow k (inSpan s b)) (sym (add-one i))
 
-pub ranges-end : (s of : List ℕ) (i : ℕ) → ((k : ℕ) → u8At s k < 256) → countOf s 0 ≡ i → RangesTo s i of → (b : ℕ) → hasLetter of b ≡ letter (sheetOf s) b
+pub ranges-end : (s of : List ℕ) (i : ℕ) → OfBytes s → countOf s 0 ≡ i → RangesTo s i of → (b : ℕ) → hasLetter of b ≡ letter (sheetOf s) b
 unfolding letter
 ranges-end s of i byte e h b = go (decLt b 256)
   where

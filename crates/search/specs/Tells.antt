@@ -1,20 +1,22 @@
 -- What a search's end holds of what is to be said.
 use mathlib.Core.Path.{_≡_}
 use Prim.Native.Nat.{ℕ, _≤_, _<_}
-use mathlib.Core.List.{List}
+use mathlib.Core.Bool.{cond}
+use lib.Dec.{eqb}
 use lib.ListN.{length, take}
-use Rattle.paper.specs.Answers.{Said, Report, reportOf, outAfter, written}
+use Rattle.paper.specs.Answers.{Said, Found, None, Spent}
 use Rattle.search.specs.declared.Sought.{Sought}
 
--- the number, the length and the trials of a search's end
-abbrev pub foundReport : Sought → Report
-foundReport r = record { number = r .number; length = r .prefix .len; trials = r .trials }
+-- what is said where a search ended so: 0 found, with its word, 1 none, 2 spent
+unfoldable pub saidBy : Sought → Said
+saidBy r =
+    cond (eqb (r .number) 0) (Found (take (r .prefix .len) (r .prefix .bytes)) (r .trials))
+    (cond (eqb (r .number) 1) (None (r .trials))
+    (Spent (r .trials)))
 
--- the search's end r holds what is said, a: its report, and the word that the output gets
+-- the search's end r holds what is said, a; where no word was found its prefix is empty
 pub record Tells (hi : ℕ) (a : Said) (r : Sought) : Type 0 where
   pub within : r .prefix .len ≤ hi
-  pub small : r .number ≤ 2
   pub wordless : 0 < r .number → r .prefix .len ≡ 0
   pub long : length (r .prefix .bytes) ≡ 60
-  pub report : reportOf a ≡ foundReport r
-  pub fills : (out : List ℕ) → outAfter a out ≡ written (take (r .prefix .len) (r .prefix .bytes)) out
+  pub said : a ≡ saidBy r

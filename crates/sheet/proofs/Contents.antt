@@ -1,7 +1,7 @@
 -- What a read sheet holds: its lists by their counts, and the records that stand in them.
 -- Assumes nothing.
-use Prim.Native.Nat.{ℕ, _+_, _<_}
-use mathlib.Core.Path.{_≡_, ap, _∙_}
+use Prim.Native.Nat.{ℕ, _+_, _<_, _≤_}
+use mathlib.Core.Path.{_≡_, refl, ap, _∙_}
 use mathlib.Core.List.{List}
 use mathlib.Core.Bool.{Bool, true, false, _&&_}
 use lib.ListN.{length, getD, length-drop}
@@ -11,7 +11,7 @@ use borrow.Author.Tests.{lt-ltb, le-leb}
 use native.Mathlib.Omega.{arith}
 use native.Mathlib.Nat.{zero-add}
 use native.Mathlib.Numerals.{add-one}
-use Rattle.paper.specs.Bytes.{u8At}
+use Rattle.paper.specs.Bytes.{u8At, OfBytes}
 use Rattle.paper.specs.Tests.{anyBelow}
 use Rattle.paper.specs.Trailer.{countOf, recordAt}
 use Rattle.paper.specs.Rows.{row, noRow}
@@ -73,9 +73,25 @@ letter-is s b h =
     rw (lt-ltb b 256 h) (simp zero-add at (any-of-table (λ (r : Span). leb (r .low) b && leb b (r .high)) 0 (countOf s 0) (ofTable spanAt s 0)))
 
 -- an accepted sheet of bytes has a letter
-pub some-letter : (s : List ℕ) → ((i : ℕ) → u8At s i < 256) → Good s → (b : ℕ) × (b < 256) × (letter (sheetOf s) b ≡ true)
+pub some-letter : (s : List ℕ) → OfBytes s → Good s → (b : ℕ) × (b < 256) × (letter (sheetOf s) b ≡ true)
 some-letter s byte g =
     let b = u8At s (recordAt s 0 0) in
     let few : 0 < countOf s 0 = g .counts 0 (omega arith) .0 in
     let low : leb b b ≡ true = le-leb b b (omega arith) in
     (b, byte _, letter-is s b (byte _) ∙ any-intro (countOf s 0) (inSpan s b) 0 few (and-intro low (le-leb _ _ (g .letters 0 few))))
+
+-- the grammar and the text of a read sheet, and how large they are at most
+module _ (s : List ℕ) where
+  pub grammar-is : sheetOf s .grammar ≡ grammarOf s
+  unfolding sheetOf
+  grammar-is = refl
+
+  pub text-is : sheetOf s .grammar .text ≡ textOf s
+  unfolding sheetOf grammarOf
+  text-is = refl
+
+  pub grammar-few : Good s → length (sheetOf s .grammar .rows) ≤ 256
+  grammar-few g = rw grammar-is (omega (arith, rows-length s, g .counts 2 (omega arith) .1))
+
+  pub text-few : Good s → (text : List ℕ) → text ≡ textOf s → length text ≤ 1024
+  text-few g text e = omega (arith, ap length e, text-length s g, g .counts 1 (omega arith) .1)

@@ -5,7 +5,8 @@ ghost use Prim.Native.Nat.{_+_, _≤_, _<_};
 ghost use lib.Dec.{leb};
 ghost use lib.ListN.{length};
 ghost use Rattle.paper.specs.Bytes.{u8At};
-ghost use Rattle.paper.specs.Refusals.{contentRefusal, tableRefusal, refusal, latest};
+ghost use Rattle.paper.specs.Refusals.{contentRefusal, tableRefusal, refusal};
+ghost use Rattle.paper.specs.Promises.{Checks};
 ghost use Rattle.paper.specs.Sheet.{textOf, sheetOf, letter};
 ghost use Rattle.sheet_trailer.specs.Placed.{Trailed, Laid};
 ghost use Rattle.sheet_trailer.specs.Tables.{TableOf};
@@ -83,7 +84,7 @@ pub const LATEST: usize = 1;
 
 // The first fault of any bytes.
 pub fn check(s: &[u8]) -> Fault
-    ensures { λ r. ⌜ r .number ≡ refusal latest (now (s .entry)) ⌝ }
+    ensures { λ r. ⌜ Checks (now (s .entry)) (r .number) ⌝ }
 {
     first_fault(s, LATEST)
 }

@@ -1,49 +1,22 @@
 -- Two results that the solver's promise allows coincide.
 -- Assumes nothing.
 use Prim.Native.Nat.{ℕ}
-use mathlib.Core.Path.{_≡_, refl, sym, ap, _∙_}
-use mathlib.Core.Bool.{cond}
+use mathlib.Core.Path.{_≡_, refl}
 use mathlib.Core.List.{List}
-use lib.Dec.{eqb}
-use Rattle.paper.specs.Answers.{Report}
+use Rattle.paper.specs.Answers as paper
+use Rattle.paper.specs.Answers.{Said, reportOf}
+use Rattle.paper.specs.Promises.{Solves}
+use Rattle.paper.proofs.Coincide.{solves-coincide}
 use Rattle.solver.specs.declared.Solved.{Solved}
-use Rattle.solver.specs.declared.Solved.the-variants as case
-use Rattle.solver.specs.Reported.{reported}
-use Rattle.solver.specs.Promise.{Promise}
+use Rattle.solver.specs.Reported.{solved, reported}
 
--- the case of a report
-abbrev caseOf : Report → Solved
-caseOf r =
-    cond (eqb (r .number) 0) (case.Found (r .length) (r .trials))
-    (cond (eqb (r .number) 1) (case.None (r .trials))
-    (cond (eqb (r .number) 2) (case.Spent (r .trials))
-    (cond (eqb (r .number) 10) case.Short
-    (cond (eqb (r .number) 11) case.Long
-    (cond (eqb (r .number) 12) case.Mark
-    (cond (eqb (r .number) 13) case.Total
-    (cond (eqb (r .number) 14) case.Counts
-    (cond (eqb (r .number) 15) case.Offsets
-    (cond (eqb (r .number) 16) case.Record
-    (cond (eqb (r .number) 17) case.Term
-    (cond (eqb (r .number) 18) case.Workspace case.Output)))))))))))
+pub coincide : (sheet : List ℕ) (budget : ℕ) (work out : List ℕ) (r q : Solved) (work′ work″ out′ out″ : List ℕ)
+    → Solves solved sheet budget work out r work′ out′ → Solves solved sheet budget work out q work″ out″ → (r ≡ q) × (work′ ≡ work″) × (out′ ≡ out″)
+coincide = solves-coincide solved
 
-case-of : (r : Solved) → caseOf (reported r) ≡ r
-case-of (case.Found n t) = refl
-case-of (case.None t) = refl
-case-of (case.Spent b) = refl
-case-of case.Short = refl
-case-of case.Long = refl
-case-of case.Mark = refl
-case-of case.Total = refl
-case-of case.Counts = refl
-case-of case.Offsets = refl
-case-of case.Record = refl
-case-of case.Term = refl
-case-of case.Workspace = refl
-case-of case.Output = refl
-
--- two results allowed by the promise coincide, and so do the buffers
-pub coincide : (s : List ℕ) (budget : ℕ) (work out : List ℕ) (r q : Solved) (work′ work″ out′ out″ : List ℕ)
-    → Promise s budget work out r work′ out′ → Promise s budget work out q work″ out″ → (r ≡ q) × (work′ ≡ work″) × (out′ ≡ out″)
-coincide s budget work out r q work′ work″ out′ out″ a b =
-    (sym (case-of r) ∙ ap caseOf (a .said ∙ sym (b .said)) ∙ case-of q, a .cleared ∙ sym (b .cleared), a .wrote ∙ sym (b .wrote))
+-- an answer reports what is said
+pub reports : (a : Said) → reported (solved a) ≡ reportOf a
+reports (paper.Found w t) = refl
+reports (paper.None t) = refl
+reports (paper.Spent b) = refl
+reports (paper.Refused n) = refl

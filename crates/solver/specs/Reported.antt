@@ -1,8 +1,16 @@
--- The paper's number, length and trials of each answer.
+-- What is said, as the solver's answer tells it; and the paper's number, length and trials of each answer.
 use Prim.Native.Nat.{ℕ}
-use Rattle.paper.specs.Answers.{Report}
+use lib.ListN.{length}
+use Rattle.paper.specs.Answers as paper
+use Rattle.paper.specs.Answers.{Said, Report}
 use Rattle.solver.specs.declared.Solved.{Solved}
-use Rattle.solver.specs.declared.Solved.the-variants.{Found, None, Spent, Short, Long, Mark, Total, Counts, Offsets, Record, Term, Workspace, Output}
+use Rattle.solver.specs.declared.Solved.the-variants.{Found, None, Spent, Refused}
+
+abbrev pub solved : Said → Solved
+solved (paper.Found w t) = Found (length w) t
+solved (paper.None t) = None t
+solved (paper.Spent b) = Spent b
+solved (paper.Refused n) = Refused (record { number = n })
 
 -- "a refusal reports length 0 and trials 0"
 abbrev pub refused : ℕ → Report
@@ -13,13 +21,4 @@ abbrev pub reported : Solved → Report
 reported (Found len t) = record { number = 0; length = len; trials = t }
 reported (None t) = record { number = 1; length = 0; trials = t }
 reported (Spent b) = record { number = 2; length = 0; trials = b }
-reported Short = refused 10
-reported Long = refused 11
-reported Mark = refused 12
-reported Total = refused 13
-reported Counts = refused 14
-reported Offsets = refused 15
-reported Record = refused 16
-reported Term = refused 17
-reported Workspace = refused 18
-reported Output = refused 19
+reported (Refused f) = refused (f .number)

@@ -3,30 +3,21 @@ ghost use mathlib.Core.Path.{_≡_};
 ghost use Prim.Native.Nat.{_≤_, _<_};
 ghost use lib.ListN.{length, take};
 ghost use Rattle.paper.specs.Trailer.{longest};
-ghost use Rattle.paper.specs.Refusals.{refusal};
+ghost use Rattle.paper.specs.Refusals.{latest, refusal};
 ghost use Rattle.paper.specs.Sheet.{sheetOf};
-ghost use Rattle.paper.specs.Answers.{written, reportOf, outAfter, workAfter, under, walkOf};
+ghost use Rattle.paper.specs.Answers.{written, outAfter, workAfter, under, walkOf};
+ghost use Rattle.paper.specs.Promises.{Solves};
 ghost use Rattle.workspace.specs.Within.{Within};
-ghost use Rattle.search.specs.Tells.{Tells, foundReport};
-ghost use Rattle.solver.specs.Reported.{reported};
-ghost use Rattle.solver.specs.Promise.{says};
+ghost use Rattle.sheet.specs.Good.{Good};
+ghost use Rattle.search.specs.Tells.{Tells, saidBy};
+ghost use Rattle.solver.specs.Reported.{solved};
 
-// Each case one of the paper's numbers: 0 with the word's length and its trials, 1 with the full count, 2 with the budget;
-// then 10 to 19 in their order.
+// 0 with the word's length and its trials, 1 with the full count, 2 with the budget; or a fault.
 pub enum Solved {
     Found(usize, u64),
     None(u64),
     Spent(u64),
-    Short,
-    Long,
-    Mark,
-    Total,
-    Counts,
-    Offsets,
-    Record,
-    Term,
-    Workspace,
-    Output,
+    Refused(sheet::Fault),
 }
 
 // The word at the start of the output.
@@ -42,9 +33,10 @@ fn put_word(p: walk_state::Prefix, out: &mut [u8])
     }
 }
 
+// What is said, told by how the search ended.
 fn tell(r: search::Sought) -> Solved
-    requires { ⌜ (r .number ≤ 2) × (0 < r .number → r .prefix .len ≡ 0) ⌝ }
-    ensures { λ x. ⌜ reported x ≡ foundReport r ⌝ }
+    requires { ⌜ (r .prefix .len ≤ 60) × (length (r .prefix .bytes) ≡ 60) ⌝ }
+    ensures { λ x. ⌜ x ≡ solved (saidBy r) ⌝ }
 {
     let number = r.number;
     match number {
@@ -56,22 +48,22 @@ fn tell(r: search::Sought) -> Solved
 
 // The sheet's walk under the budget, letters that nothing tells apart passed over.
 fn searched(s: &[u8], budget: u64, work: &mut [u64]) -> search::Sought
-    requires { ⌜ (refusal (now s) ≡ 0) × (7564 ≤ length (now work)) ⌝ }
+    requires { ⌜ Good (now s) × (7564 ≤ length (now work)) ⌝ }
     ensures { λ r. ⌜ Tells (longest (now (s .entry))) (under budget (walkOf (sheetOf (now (s .entry))))) r × Within (now (work .entry)) (now (work .exit)) ⌝ }
 {
     let mut lay = [0u64; 1306];
     groundwork::lay(s, &mut lay);
     let l = search::letters::letters_of(s);
     let slots = alike::slots_of(s);
-    let lo = sheet_trailer::field(s, 0);
-    let hi = sheet_trailer::field(s, 1);
+    let lo = sheet_trailer::shortest(s);
+    let hi = sheet_trailer::longest(s);
     search::seek(s, l, &slots.of, lo, hi, budget, &lay, work)
 }
 
 // The answer of an accepted sheet, lent enough.
 fn answer(s: &[u8], budget: u64, work: &mut [u64], out: &mut [u8]) -> Solved
-    requires { ⌜ (refusal (now s) ≡ 0) × (7564 ≤ length (now work)) × (longest (now s) ≤ length (now out)) ⌝ }
-    ensures said { λ r. ⌜ reported r ≡ reportOf (under budget (walkOf (sheetOf (now (s .entry))))) ⌝ }
+    requires { ⌜ Good (now s) × (7564 ≤ length (now work)) × (longest (now s) ≤ length (now out)) ⌝ }
+    ensures said { λ r. ⌜ r ≡ solved (under budget (walkOf (sheetOf (now (s .entry))))) ⌝ }
     ensures cleared { λ r. ⌜ now (work .exit) ≡ workAfter (under budget (walkOf (sheetOf (now (s .entry))))) (now (work .entry)) ⌝ }
     ensures wrote { λ r. ⌜ now (out .exit) ≡ outAfter (under budget (walkOf (sheetOf (now (s .entry))))) (now (out .entry)) ⌝ }
 {
@@ -83,36 +75,25 @@ fn answer(s: &[u8], budget: u64, work: &mut [u64], out: &mut [u8]) -> Solved
 
 // 18 and 19, of an accepted sheet; then its answer.
 fn lent(s: &[u8], budget: u64, work: &mut [u64], out: &mut [u8]) -> Solved
-    requires { ⌜ refusal (now s) ≡ 0 ⌝ }
-    ensures said { λ r. ⌜ reported r ≡ reportOf (says (now (s .entry)) budget (now (work .entry)) (now (out .entry))) ⌝ }
-    ensures cleared { λ r. ⌜ now (work .exit) ≡ workAfter (says (now (s .entry)) budget (now (work .entry)) (now (out .entry))) (now (work .entry)) ⌝ }
-    ensures wrote { λ r. ⌜ now (out .exit) ≡ outAfter (says (now (s .entry)) budget (now (work .entry)) (now (out .entry))) (now (out .entry)) ⌝ }
+    requires { ⌜ refusal latest (now s) ≡ 0 ⌝ }
+    ensures { λ r. ⌜ Solves solved (now (s .entry)) budget (now (work .entry)) (now (out .entry)) r (now (work .exit)) (now (out .exit)) ⌝ }
 {
     if work.len() < paper::WORDS {
-        return Solved::Workspace;
+        return Solved::Refused(sheet::by_number(18));
     }
-    if out.len() < sheet_trailer::field(s, 1) {
-        return Solved::Output;
+    if out.len() < sheet_trailer::longest(s) {
+        return Solved::Refused(sheet::by_number(19));
     }
     answer(s, budget, work, out)
 }
 
 // What is said of any bytes and any budget, lent any workspace and any output.
 pub fn solve(sheet: &[u8], budget: u64, work: &mut [u64], out: &mut [u8]) -> Solved
-    ensures said { λ r. ⌜ reported r ≡ reportOf (says (now (sheet .entry)) budget (now (work .entry)) (now (out .entry))) ⌝ }
-    ensures cleared { λ r. ⌜ now (work .exit) ≡ workAfter (says (now (sheet .entry)) budget (now (work .entry)) (now (out .entry))) (now (work .entry)) ⌝ }
-    ensures wrote { λ r. ⌜ now (out .exit) ≡ outAfter (says (now (sheet .entry)) budget (now (work .entry)) (now (out .entry))) (now (out .entry)) ⌝ }
+    ensures { λ r. ⌜ Solves solved (now (sheet .entry)) budget (now (work .entry)) (now (out .entry)) r (now (work .exit)) (now (out .exit)) ⌝ }
 {
-    let v = sheet::check(sheet);
-    match v {
-        sheet::Verdict::Accepted => lent(sheet, budget, work, out),
-        sheet::Verdict::Short => Solved::Short,
-        sheet::Verdict::Long => Solved::Long,
-        sheet::Verdict::Mark => Solved::Mark,
-        sheet::Verdict::Total => Solved::Total,
-        sheet::Verdict::Counts => Solved::Counts,
-        sheet::Verdict::Offsets => Solved::Offsets,
-        sheet::Verdict::Record => Solved::Record,
-        sheet::Verdict::Term => Solved::Term,
+    let f = sheet::check(sheet);
+    if f.number != 0 {
+        return Solved::Refused(f);
     }
+    lent(sheet, budget, work, out)
 }

@@ -59,16 +59,7 @@ fn answer(sheet: &[u8]) {
             say(b"spent");
             say_number(trials);
         }
-        solver::Solved::Short => say_refused(10),
-        solver::Solved::Long => say_refused(11),
-        solver::Solved::Mark => say_refused(12),
-        solver::Solved::Total => say_refused(13),
-        solver::Solved::Counts => say_refused(14),
-        solver::Solved::Offsets => say_refused(15),
-        solver::Solved::Record => say_refused(16),
-        solver::Solved::Term => say_refused(17),
-        solver::Solved::Workspace => say_refused(18),
-        solver::Solved::Output => say_refused(19),
+        solver::Solved::Refused(f) => say_refused(f.number as u64),
     }
     say(b"\n");
 }

@@ -13,12 +13,12 @@ use Rattle.paper.specs.Refusals.{refusal}
 use Rattle.paper.specs.Sheet.{sheetOf, grammarOf}
 use Rattle.paper.specs.Cuts.{cutList}
 use Rattle.paper.specs.Answers.{Said, Found, None, Spent, Refused, reportOf, whether, under, walkOf, solverRefusal, solverSays, makerRefusal, makerSays}
+use Rattle.paper.specs.Promises.{says}
 use Rattle.paper.proofs.Meaning.{Means, answer-means}
 use Rattle.paper.proofs.Obeys.{list-most}
 use Rattle.workspace.proofs.Spans.{lt-or-le}
 use Rattle.sheet.proofs.Good.{good}
 use Rattle.sheet.proofs.Soundness.{accepted-sound}
-use Rattle.solver.specs.Promise.{says}
 use Rattle.solver.proofs.Solving.{says-sheet}
 use Rattle.maker.proofs.Answers.{refused-sheet, refused-row, refused-length}
 

@@ -1,10 +1,16 @@
--- What the structs of the C calls report, in the paper's terms.
-use Rattle.paper.specs.Answers.{Report, MakerReport}
+-- What is said, as the structs of the C calls tell it; and what the structs report, in the paper's terms.
+use Rattle.paper.specs.Answers.{Said, Report, reportOf, MakerReport}
 use Rattle.strovimel_c.specs.declared.Solved.{Solved}
 use Rattle.strovimel_c.specs.declared.Made.{Made}
 
+abbrev pub solvedOf : Said → Solved
+solvedOf a = let r = reportOf a in record { number = r .number; length = r .length; trials = r .trials }
+
 abbrev pub solvedReport : Solved → Report
 solvedReport r = record { number = r .number; length = r .length; trials = r .trials }
+
+abbrev pub madeOf : MakerReport → Made
+madeOf r = record { number = r .number; length = r .length }
 
 abbrev pub madeReport : Made → MakerReport
 madeReport r = record { number = r .number; length = r .length }

@@ -1,11 +1,9 @@
 // The calls of the solver, the maker and the gate as C makes them: a slice is a pointer and a length, an answer a number or a struct by value.
 ghost use mathlib.Core.Path.{_≡_};
 ghost use Prim.Native.Nat.{_<_};
-ghost use lib.ListN.{length};
-ghost use Rattle.paper.specs.Answers.{reportOf, outAfter, workAfter, makerSays, spaceAfter, gateSays, gateLeaves};
+ghost use Rattle.paper.specs.Promises.{Solves, Makes, Gates};
 ghost use Rattle.solver.specs.Reported.{refused, reported};
-ghost use Rattle.solver.specs.Promise.{says};
-ghost use Rattle.maker.specs.Promise.{reportOf as making};
+ghost use Rattle.maker.specs.Reported.{reported as making};
 ghost use Rattle.strovimel_c.specs.Structs.{solvedReport, madeReport};
 
 // The solver's answer: its number, the word's length, the trials.
@@ -21,16 +19,6 @@ pub struct Solved {
 pub struct Made {
     pub number: u32,
     pub length: u32,
-}
-
-fn refused_by(number: u32) -> Solved
-    ensures { λ r. ⌜ solvedReport r ≡ refused number ⌝ }
-{
-    Solved {
-        number: number,
-        length: 0,
-        trials: 0,
-    }
 }
 
 fn tell_solved(a: solver::Solved) -> Solved
@@ -53,16 +41,11 @@ fn tell_solved(a: solver::Solved) -> Solved
             length: 0,
             trials: trials,
         },
-        solver::Solved::Short => refused_by(10),
-        solver::Solved::Long => refused_by(11),
-        solver::Solved::Mark => refused_by(12),
-        solver::Solved::Total => refused_by(13),
-        solver::Solved::Counts => refused_by(14),
-        solver::Solved::Offsets => refused_by(15),
-        solver::Solved::Record => refused_by(16),
-        solver::Solved::Term => refused_by(17),
-        solver::Solved::Workspace => refused_by(18),
-        solver::Solved::Output => refused_by(19),
+        solver::Solved::Refused(f) => Solved {
+            number: f.number,
+            length: 0,
+            trials: 0,
+        },
     }
 }
 
@@ -75,8 +58,8 @@ fn tell_made(a: maker::Made) -> Made
             number: 0,
             length: length as u32,
         },
-        maker::Made::Refused(number) => Made {
-            number: number as u32,
+        maker::Made::Refused(f) => Made {
+            number: f.number,
             length: 0,
         },
     }
@@ -90,9 +73,7 @@ pub extern "C" fn strovimel_solve(
     work: &mut [u64],
     out: &mut [u8],
 ) -> Solved
-    ensures said { λ r. ⌜ solvedReport r ≡ reportOf (says (now (sheet .entry)) budget (now (work .entry)) (now (out .entry))) ⌝ }
-    ensures cleared { λ r. ⌜ now (work .exit) ≡ workAfter (says (now (sheet .entry)) budget (now (work .entry)) (now (out .entry))) (now (work .entry)) ⌝ }
-    ensures wrote { λ r. ⌜ now (out .exit) ≡ outAfter (says (now (sheet .entry)) budget (now (work .entry)) (now (out .entry))) (now (out .entry)) ⌝ }
+    ensures { λ r. ⌜ Solves solvedOf (now (sheet .entry)) budget (now (work .entry)) (now (out .entry)) r (now (work .exit)) (now (out .exit)) ⌝ }
 {
     tell_solved(solver::solve(sheet, budget, work, out))
 }
@@ -100,8 +81,7 @@ pub extern "C" fn strovimel_solve(
 // The cut list of a sheet's row for a length, at the start of the space lent.
 #[no_mangle]
 pub extern "C" fn strovimel_make(sheet: &[u8], row: u64, n: u64, list: &mut [u8]) -> Made
-    ensures said { λ r. ⌜ madeReport r ≡ makerSays (now (sheet .entry)) row n (length (now (list .entry))) ⌝ }
-    ensures wrote { λ r. ⌜ now (list .exit) ≡ spaceAfter (now (sheet .entry)) row n (now (list .entry)) ⌝ }
+    ensures { λ r. ⌜ Makes madeOf (now (sheet .entry)) row n (now (list .entry)) r (now (list .exit)) ⌝ }
 {
     tell_made(maker::make(sheet, row, n, list))
 }
@@ -109,8 +89,7 @@ pub extern "C" fn strovimel_make(sheet: &[u8], row: u64, n: u64, list: &mut [u8]
 // Whether the list accepts the word, with the text: on any list, text, word and workspace.
 #[no_mangle]
 pub extern "C" fn strovimel_gate(list: &[u8], text: &[u8], word: &[u8], work: &mut [u64]) -> u32
-    ensures said { λ r. ⌜ r ≡ gateSays (now (list .entry)) (now (text .entry)) (now (word .entry)) (length (now (work .entry))) ⌝ }
-    ensures left { λ r. ⌜ now (work .exit) ≡ gateLeaves r (now (work .entry)) ⌝ }
+    ensures { λ r. ⌜ Gates (now (list .entry)) (now (text .entry)) (now (word .entry)) (now (work .entry)) r (now (work .exit)) ⌝ }
 {
     gate::number(gate::gate(list, text, word, work))
 }

@@ -1,9 +1,13 @@
 -- The moves of a prefix, and of the walk's state that holds it.
 use Prim.Native.Nat.{ℕ, _+_, _-_, _≤_}
-use mathlib.Core.Bool.{true}
-use lib.ListN.{set, getD}
+use mathlib.Core.Bool.{true, false}
+use lib.ListN.{set, getD, replicate}
 use Rattle.walk_state.specs.declared.Prefix.{Prefix}
 use Rattle.walk_state.specs.declared.State.{State}
+
+-- no letter
+abbrev pub emptyPrefix : Prefix
+emptyPrefix = record { bytes = replicate 60 0; len = 0 }
 
 -- one letter more
 abbrev pub longer : Prefix → ℕ → Prefix
@@ -20,6 +24,10 @@ shorter p = record { bytes = p .bytes; len = p .len - 1 }
 -- the last letter
 abbrev pub lastOf : Prefix → ℕ
 lastOf p = getD (p .bytes) (p .len - 1) 0
+
+-- before the first trial
+abbrev pub startState : State
+startState = record { prefix = emptyPrefix; begun = replicate 61 0; trials = 0; over = false }
 
 -- one letter longer, begun now
 abbrev pub downOf : State → ℕ → State

@@ -1,10 +1,8 @@
 // The walk's state: its letters, its prefix by value, and its moves, each handing the state back.
 ghost use mathlib.Core.Path.{_≡_};
-ghost use mathlib.Core.Bool.{false};
 ghost use Prim.Native.Nat.{_+_, _<_, _≤_};
-ghost use lib.ListN.{getD};
 ghost use Rattle.walk_state.specs.Letters.{hasLetter, NoLetter, Joined, First};
-ghost use Rattle.walk_state.specs.Moves.{longer, ending, shorter, downOf, nextOf, backOf, countedOf, passedOf, againOf, lastOf, sinceOf, Marks};
+ghost use Rattle.walk_state.specs.Moves.{emptyPrefix, startState, longer, ending, shorter, downOf, nextOf, backOf, countedOf, passedOf, againOf, lastOf, sinceOf, Marks};
 
 // The letters, a byte for each possible one: 1 in, 0 out.
 pub struct Letters {
@@ -61,7 +59,7 @@ pub struct Prefix {
 
 impl Prefix {
     pub fn empty() -> Self
-        ensures { λ r. ⌜ r .len ≡ 0 ⌝ }
+        ensures { λ r. ⌜ r ≡ emptyPrefix ⌝ }
     {
         Prefix {
             bytes: [0u8; 60],
@@ -120,7 +118,7 @@ pub struct State {
 
 impl State {
     pub fn start() -> Self
-        ensures { λ r. ⌜ (r .prefix .len ≡ 0) × (r .trials ≡ 0) × (r .over ≡ false) × (getD (r .begun) 0 0 ≡ 0) ⌝ }
+        ensures { λ r. ⌜ r ≡ startState ⌝ }
     {
         let prefix = Prefix::empty();
         State {

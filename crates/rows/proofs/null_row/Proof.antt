@@ -1,63 +1,69 @@
-use mathlib.Core.Logic.{⊎-elim, inl, inr}
+use Prim.Native.Nat.{_<_}
+use mathlib.Core.Path.{_≡_}
 use native.Mathlib.Omega.{arith}
+use Rattle.paper.specs.Decide.{nullRow}
 use borrow.Author.Needs.{needs}
-use Rattle.rows.proofs.ByKind.{null-1, null-3, null-4-yes, null-4-no, null-5-yes, null-5-no, null-6, null-else}
 use Rattle.rows.proofs.null_row.Statement.{statement}
 use Rattle.rows.proofs.null_row.Tie as tie
 
-test-requires : tie.Need-test-requires
-test-requires c κs =
-    let z = c .before .before .pre .1 (omega (arith, c .match .keys3)) in
-    (search needs, omega (arith, z .0))
+-- the children of an alternative, and of a sequence
+alt-in : (p : tie.After-known-told2) → (p .before .r2 .given .0 .0 < 256) × (p .before .r2 .given .0 .1 .0 < 256)
+alt-in p = rw (p .before .r2 .given .1) at (p .before .before .before .before .pre .1)
 
-test-requires-2 : tie.Need-test-requires-2
-test-requires-2 c κs =
-    let z = c .before .before .before .before .pre .1 (omega (arith, c .before .before .match .keys3)) in
-    (search needs, omega (arith, z .1))
-
-test-requires-3 : tie.Need-test-requires-3
-test-requires-3 c κs =
-    let z = c .before .before .pre .1 (omega (arith, c .match .keys4)) in
-    (search needs, omega (arith, z .0))
-
-test-requires-4 : tie.Need-test-requires-4
-test-requires-4 c κs =
-    let z = c .before .before .before .before .pre .1 (omega (arith, c .before .before .match .keys4)) in
-    (search needs, omega (arith, z .1))
+seq-in : (p : tie.After-known-told3) → (p .before .r3 .given .0 .0 < 256) × (p .before .r3 .given .0 .1 .0 < 256)
+seq-in p = rw (p .before .r3 .given .1) at (p .before .before .before .before .pre .1)
 
 returns : tie.Need-returns
-returns c = ⊎-elim (λ e. null-1 _ _ _ _ e) (λ e. null-6 _ _ _ _ e) (c .match .keys1)
+unfolding nullRow
+returns c = rw (c .enum-told .given .1)
 
 returns-2 : tie.Need-returns-2
-returns-2 c = null-3 _ _ _ _ (c .before .match .keys2)
+unfolding nullRow
+returns-2 c = rw (c .enum-told2 .given .1)
 
 returns-3 : tie.Need-returns-3
-returns-3 c = null-4-yes _ _ _ _ (c .before .before .match .keys3) (c .before .test .ensures) (c .if1 .taken) (c .if1 .taken)
+unfolding nullRow
+returns-3 c = rw (c .before .r .given .1)
 
 returns-4 : tie.Need-returns-4
-returns-4 c = null-4-no _ _ _ _ (c .before .before .before .match .keys3) (c .before .before .test .ensures) (c .before .if1 .left) (c .test2 .ensures)
+unfolding nullRow
+returns-4 c = rw (c .before .before .before .r2 .given .1, ← c .before .test .ensures, c .if1 .taken)
 
 returns-5 : tie.Need-returns-5
-returns-5 c = null-5-yes _ _ _ _ (c .before .before .before .match .keys4) (c .before .before .test3 .ensures) (c .before .if2 .taken) (c .test4 .ensures)
+unfolding nullRow
+returns-5 c = rw (c .before .before .before .before .r2 .given .1, ← c .before .before .test .ensures, c .before .if1 .left) (c .test2 .ensures)
 
 returns-6 : tie.Need-returns-6
-returns-6 c = null-5-no _ _ _ _ (c .before .before .match .keys4) (c .before .test3 .ensures) (c .if2 .left) (c .if2 .left)
+unfolding nullRow
+returns-6 c = rw (c .before .before .before .before .r3 .given .1, ← c .before .before .test3 .ensures, c .before .if2 .taken) (c .test4 .ensures)
 
 returns-7 : tie.Need-returns-7
-returns-7 c = null-else _ _ _ _ (λ e. c .match .rest .0 .0 .0 .1 (inl e)) (c .match .rest .0 .0 .1) (c .match .rest .0 .1) (c .match .rest .1) (λ e. c .match .rest .0 .0 .0 .1 (inr e))
+unfolding nullRow
+returns-7 c = rw (c .before .before .before .r3 .given .1, ← c .before .test3 .ensures, c .if2 .left)
+
+returns-8 : tie.Need-returns-8
+unfolding nullRow
+returns-8 c = rw (c .enum-told3 .given .1)
 
 pub null-row-spec : {M : Type 1} → statement M
 null-row-spec =
     tie.close
     (tie.spec
-    test-requires
-    test-requires-2
-    test-requires-3
-    test-requires-4
+    (λ c. search needs)
+    (λ c. search needs)
+    (λ c. search needs)
+    (λ c. search needs)
+    (λ c κs. (search needs, alt-in c .0))
+    (λ c κs. (search needs, alt-in (c .before .before) .1))
+    (λ c. search needs)
+    (λ c κs. (search needs, seq-in c .0))
+    (λ c κs. (search needs, seq-in (c .before .before) .1))
+    (λ c. search needs)
     returns
     returns-2
     returns-3
     returns-4
     returns-5
     returns-6
-    returns-7)
+    returns-7
+    returns-8)

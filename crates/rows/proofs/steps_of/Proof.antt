@@ -1,47 +1,60 @@
-use mathlib.Core.Path.{sym, _∙_}
-use mathlib.Core.Bool.{true≢false}
+use Prim.Native.Nat.{_<_}
+use mathlib.Core.Path.{_≡_, _∙_}
 use native.Mathlib.Omega.{arith}
+use Rattle.rows.specs.Sets.{stepsOf}
 use borrow.Author.Needs.{needs}
-use Rattle.rows.proofs.ByKind.{steps-4, steps-5, steps-6, steps-else}
 use Rattle.rows.proofs.steps_of.Statement.{statement}
 use Rattle.rows.proofs.steps_of.Tie as tie
 
-test-requires : tie.Need-test-requires
-test-requires c κs =
-    let z = c .before .before .pre .2 (omega (arith, c .match .keys2)) in
-    (search needs, omega (arith, z .1))
-
-test-requires-2 : tie.Need-test-requires-2
-test-requires-2 c κs =
-    let z = c .before .before .before .pre .2 (omega (arith, c .before .match .keys2)) in
-    (search needs, omega (arith, z .0))
+-- the children of a sequence
+seq-in : (p : tie.After-known-told2) → (p .before .r2 .given .0 .0 < 256) × (p .before .r2 .given .0 .1 .0 < 256)
+seq-in p = rw (p .before .r2 .given .1) at (p .before .before .before .before .pre .1)
 
 returns : tie.Need-returns
-returns c =
-    let e = c .match .keys1 in
-    let z = c .before .before .pre .2 (omega (arith, e)) in
-    let s = steps-4 _ _ _ _ e in
-    record { left = s .0; right = s .1; left-in = λ h. z .0; right-in = λ h. z .1 }
+unfolding stepsOf
+returns c = rw (c .before .enum-told .given .1) (c .steps-to .ensures)
 
 returns-2 : tie.Need-returns-2
-returns-2 c =
-    let e = c .before .before .match .keys2 in
-    let z = c .before .before .before .before .pre .2 (omega (arith, e)) in
-    let s = steps-5 _ _ _ _ e in
-    record { left = c .before .test .ensures ∙ s .0; right = c .test2 .ensures ∙ s .1; left-in = λ h. z .0; right-in = λ h. z .1 }
+unfolding stepsOf
+returns-2 c = rw (c .before .enum-told2 .given .1) (c .steps-to2 .ensures)
 
 returns-3 : tie.Need-returns-3
-returns-3 c =
-    let e = c .match .keys3 in
-    let z = c .before .before .pre .2 (omega (arith, e)) in
-    let s = steps-6 _ _ _ _ e in
-    record { left = s .0; right = s .1; left-in = λ h. z .0; right-in = λ h. absurd (true≢false (sym h)) }
+unfolding stepsOf
+returns-3 c = rw (c .before .enum-told3 .given .1) (c .steps-to3 .ensures)
 
 returns-4 : tie.Need-returns-4
-returns-4 c =
-    let s = steps-else _ _ _ _ (c .match .rest .0 .0 .1) (c .match .rest .0 .1) (c .match .rest .1) in
-    record { left = s .0; right = s .1; left-in = λ h. absurd (true≢false (sym h)); right-in = λ h. absurd (true≢false (sym h)) }
+unfolding stepsOf
+returns-4 c = rw (c .before .before .r .given .1) (c .steps-to4 .ensures)
+
+returns-5 : tie.Need-returns-5
+unfolding stepsOf
+returns-5 c = rw (c .before .before .before .before .r2 .given .1, ← c .before .before .test .ensures, ← c .before .test2 .ensures) (c .steps-to5 .ensures)
+
+returns-6 : tie.Need-returns-6
+unfolding stepsOf
+returns-6 c = rw (c .before .before .r3 .given .1) (c .steps-to6 .ensures)
 
 pub steps-of-spec : {M : Type 1} → statement M
 steps-of-spec =
-    tie.close (tie.spec test-requires test-requires-2 returns returns-2 returns-3 returns-4)
+    tie.close
+    (tie.spec
+    (λ c. search needs)
+    (λ c κs. search needs)
+    (λ c. search needs)
+    (λ c κs. search needs)
+    (λ c. search needs)
+    (λ c κs. search needs)
+    (λ c. search needs)
+    (λ c κs. search needs)
+    (λ c. search needs)
+    (λ c κs. (search needs, seq-in c .1))
+    (λ c κs. (search needs, seq-in (c .before) .0))
+    (λ c κs. search needs)
+    (λ c. search needs)
+    (λ c κs. search needs)
+    returns
+    returns-2
+    returns-3
+    returns-4
+    returns-5
+    returns-6)

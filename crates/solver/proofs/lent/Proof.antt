@@ -1,6 +1,6 @@
 use native.Mathlib.Omega.{arith}
 use Rattle.sheet.proofs.Good.{good}
-use Rattle.solver.proofs.Solving.{refusing, says-18, says-19, says-answer}
+use Rattle.solver.proofs.Solving.{refusing, answering, says-18, says-19, says-answer}
 use borrow.Author.Needs.{needs}
 use Rattle.solver.proofs.lent.Statement.{statement}
 use Rattle.solver.proofs.lent.Tie as tie
@@ -30,7 +30,7 @@ same-length-2 c = search needs
 returns-3 : tie.Need-returns-3
 returns-3 c =
     let e = says-answer (c .before .before .before .before .before .before .before .before .before .before .before .before .before .args .s .now) (c .before .before .before .before .before .before .before .before .before .before .before .before .before .args .budget) (c .before .before .before .before .before .before .before .before .before .before .before .before .before .args .work .now) (c .before .before .before .before .before .before .before .before .before .before .before .before .before .args .out .now) (c .before .before .before .before .before .before .before .before .before .before .before .before .before .pre) (c .before .before .before .before .before .before .before .before .before .if1 .left) (omega (arith, c .before .before .before .before .before .before .before .if2 .left, c .before .before .before .before .before .before .before .before .field .ensures .0)) in
-    rw e (c .before .before .before .before .answer .ensures)
+    answering _ _ _ _ _ _ _ e (c .before .before .before .before .answer .ensures)
 
 pub lent-spec : {M : Type 1} → statement M
 lent-spec =

@@ -10,13 +10,15 @@ make-requires : tie.Need-make-requires
 make-requires c κs = search needs
 
 tell-made-requires : tie.Need-tell-made-requires
-tell-made-requires c κs = subst (λ (r : MakerReport). r .length < 4294967296) (sym (c .before .before .make .ensures .0)) (list-fits _ _ _ _)
+tell-made-requires c κs = subst (λ (r : MakerReport). r .length < 4294967296) (sym (c .before .before .make .ensures .said)) (list-fits _ _ _ _)
 
 same-length : tie.Need-same-length
 same-length c = search needs
 
 returns : tie.Need-returns
-returns c = (c .tell-made .ensures ∙ c .before .before .before .make .ensures .0, c .before .before .before .make .ensures .1)
+returns c =
+    let p = c .before .before .before .make .ensures in
+    record { said = c .tell-made .ensures ∙ p .said; wrote = p .wrote }
 
 pub strovimel-make-spec : {M : Type 1} → statement M
 strovimel-make-spec = tie.close (tie.spec make-requires tell-made-requires same-length returns)

@@ -12,7 +12,7 @@ solve-requires c κs = search needs
 tell-solved-requires : tie.Need-tell-solved-requires
 tell-solved-requires c κs =
     let a = c .before .before .before .before .before .before .before .before .before .before .args in
-    subst (λ (r : Report). r .length < 4294967296) (sym (c .before .before .before .before .solve .ensures .0)) (word-fits _ _ (a .work .now) (a .out .now))
+    subst (λ (r : Report). r .length < 4294967296) (sym (c .before .before .before .before .solve .ensures .said)) (word-fits _ _ (a .work .now) (a .out .now))
 
 same-length : tie.Need-same-length
 same-length c = search needs
@@ -23,7 +23,7 @@ same-length-2 c = search needs
 returns : tie.Need-returns
 returns c =
     let p = c .before .before .before .before .before .solve .ensures in
-    (c .tell-solved .ensures ∙ p .0, p .1)
+    record { said = c .tell-solved .ensures ∙ p .said; cleared = p .cleared; wrote = p .wrote }
 
 pub strovimel-solve-spec : {M : Type 1} → statement M
 strovimel-solve-spec =

@@ -1,0 +1,24 @@
+-- What a caller learns of each call, by the contract above its code, is the promise that the demands are about.
+-- Assumes nothing.
+use denote.Ref.{now}
+use Rattle.paper.specs.Promises.{Solves, Makes, Gates}
+use Rattle.solver.specs.Reported as solver
+use Rattle.solver.proofs.solve.Reads as solve
+use Rattle.maker.specs.Reported as maker
+use Rattle.maker.proofs.make.Reads as make
+use Rattle.gate.specs.Number.{numberOf}
+use Rattle.gate.proofs.gate.Reads as gate
+
+-- a: what is passed, r: what is returned, e: what was passed as it is found at the return
+
+pub solve-promised : (κs : _) (a : _) (r : _) (e : _) → solve.Learnt κs a r e
+    → Solves (now (a .0)) (a .1 .0) (now (a .1 .1 .0)) (now (a .1 .1 .1 .0)) (solver.reported r) (now (e .1 .1 .0)) (now (e .1 .1 .1 .0))
+solve-promised κs a r e p = p
+
+pub make-promised : (κs : _) (a : _) (r : _) (e : _) → make.Learnt κs a r e
+    → Makes (now (a .0)) (a .1 .0) (a .1 .1 .0) (now (a .1 .1 .1 .0)) (maker.reported r) (now (e .1 .1 .1 .0))
+make-promised κs a r e p = p
+
+pub gate-promised : (κs : _) (a : _) (r : _) (e : _) → gate.Learnt κs a r e
+    → Gates (now (a .0)) (now (a .1 .0)) (now (a .1 .1 .0)) (now (a .1 .1 .1 .0)) (numberOf r) (now (e .1 .1 .1 .0))
+gate-promised κs a r e p = p

@@ -1,0 +1,13 @@
+-- `State::start` meets its contract: around the empty prefix everything is 0.
+use borrow.Author.Needs.{needs}
+use Rattle.walk_state.proofs.State.start.Statement.{statement}
+use Rattle.walk_state.proofs.State.start.Tie as tie
+
+empty-requires : tie.Need-empty-requires
+empty-requires c κs = search needs
+
+returns : tie.Need-returns
+returns c = cc
+
+pub start-spec : {M : Type 1} → statement M
+start-spec = tie.close (tie.spec empty-requires returns)
