@@ -5,23 +5,15 @@ ghost use Rattle.paper.specs.Cuts.{headBytes};
 ghost use Rattle.numbers.specs.Put.{Put};
 ghost use Rattle.maker_groups.specs.Parts.{fieldBytes, «mark»};
 
-// The fields of an option.
-pub struct OptionFields {
-    pub kind: u8,
-    pub k: u8,
-    pub a: usize,
-    pub b: usize,
-}
-
 // An option at o.
-pub fn put_option(list: &mut [u8], o: usize, x: OptionFields) -> usize
+pub fn put_option(list: &mut [u8], o: usize, kind: u8, k: u8, a: usize, b: usize) -> usize
     requires { ⌜ o + 8 ≤ length (now list) ⌝ }
-    ensures { λ r. ⌜ Put (fieldBytes (x .kind) (x .k) (x .a) (x .b)) o (now (list .entry)) (now (list .exit)) r ⌝ }
+    ensures { λ r. ⌜ Put (fieldBytes kind k a b) o (now (list .entry)) (now (list .exit)) r ⌝ }
 {
-    let p = numbers::put_pair(list, o, x.kind, x.k);
-    let a = numbers::put_u16(list, p, x.a);
-    let b = numbers::put_u16(list, a, x.b);
-    numbers::put_u16(list, b, 0)
+    let p = numbers::put_pair(list, o, kind, k);
+    let x = numbers::put_u16(list, p, a);
+    let y = numbers::put_u16(list, x, b);
+    numbers::put_u16(list, y, 0)
 }
 
 // A head at o.
