@@ -55,6 +55,9 @@ text-barred s text bars bars′ e o t =
 
 -- ---- slots
 
+pub no-slot : (ws bars owners : List ℕ) (used b : ℕ) → SlotFor ws bars owners used b 0
+no-slot ws bars owners used b = record { small = omega arith; most = omega arith; free = λ h. absurd (omega arith); like = λ h. absurd (omega arith) }
+
 pub slotted-none : (ws bars owners : List ℕ) (used : ℕ) (slot : List ℕ) → length slot ≡ 256 → length owners ≡ 8 → Slotted ws bars owners used slot 0
 slotted-none ws bars owners used slot l m = record {
   long = l;

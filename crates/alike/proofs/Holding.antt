@@ -3,7 +3,7 @@
 use Prim.Native.Nat.{ℕ, _+_, _*_, _/_, _%_, _≤_, _<_}
 use mathlib.Core.Path.{_≡_, refl, sym, _∙_}
 use mathlib.Core.Logic.{_≢_}
-use mathlib.Core.Bool.{Bool, true, false, cond, _&&_, _||_, and-false}
+use mathlib.Core.Bool.{Bool, true, false, _&&_, _||_, and-false}
 use mathlib.Core.List.{List}
 use native.Mathlib.Omega.{arith}
 use native.Mathlib.Nat.{add-zero}
@@ -11,12 +11,12 @@ use native.Mathlib.Decide.{decLt, ℕ-discrete}
 use lib.Dec.{eqb, ltb, leb}
 use lib.ListN.{length, getD, replicate, length-replicate, getD-replicate, List·getD-eq-default}
 use borrow.Author.Tests.{lt-ltb, le-ltb, le-leb, lt-leb, eq-eqb, ne-eqb}
-use Rattle.paper.specs.Rows.{Empty, Range, Text, Alt, Seq, Star, Grammar, row, noRow, rowOf}
+use Rattle.paper.specs.Rows.{Range, Grammar, row, noRow}
 use Rattle.paper.proofs.Tests.{or-false}
 use Rattle.workspace.specs.Bits.{bit, bitAt, setBit, wordAt}
 use Rattle.workspace.proofs.Bits.{length-set-bit, set-bit-same, set-bit-other, set-bit-apart}
 use Rattle.workspace.proofs.Words.{bit-zero, of-four}
-use Rattle.alike.specs.Untold.{holds}
+use Rattle.sheet_contents.specs.Ranges.{holdsByte}
 use Rattle.alike.specs.Slots.{between, Added, Holders, SameRows}
 
 -- ---- a row into the entries of some bytes
@@ -66,34 +66,18 @@ module _ (lo x r : ℕ) (ws ws′ : List ℕ) (above : lo ≤ x) (byte : x < 256
   added-more = record { long = length-set-bit ws′ x r ∙ a .long; bits = added-bit }
 
 -- a range row's bytes
-pub added-range : (lo hi r : ℕ) (ws ws′ : List ℕ) → Added (between lo (hi + 1)) r ws ws′ → Added (holds (Range lo hi)) r ws ws′
-unfolding holds
-added-range lo hi r ws ws′ a = added-as (between lo (hi + 1)) (holds (Range lo hi)) r ws ws′ (λ b. rw (ltb-more b hi)) a
+pub added-range : (lo hi r : ℕ) (ws ws′ : List ℕ) → Added (between lo (hi + 1)) r ws ws′ → Added (holdsByte (Range lo hi)) r ws ws′
+unfolding holdsByte
+added-range lo hi r ws ws′ a = added-as (between lo (hi + 1)) (holdsByte (Range lo hi)) r ws ws′ (λ b. rw (ltb-more b hi)) a
 
--- a row of another kind holds no byte
-pub holds-range : (kind x y : ℕ) → kind ≡ 2 → rowOf kind x y ≡ Range x y
-unfolding rowOf
-holds-range kind x y e = rw e
-
-none-held : (b : ℕ) → holds noRow b ≡ false
-unfolding holds
+-- a row that is not there holds no byte
+none-held : (b : ℕ) → holdsByte noRow b ≡ false
+unfolding holdsByte
 none-held b = go (decLt b 1)
   where
     go : Dec (b < 1) → (leb 1 b && leb b 0) ≡ false
     go (yes l) = rw (lt-leb 1 b l)
     go (no l) = rw (le-leb 1 b (omega arith), lt-leb b 0 (omega arith))
-
-pub holds-other : (kind x y b : ℕ) → eqb kind 2 ≡ false → holds (rowOf kind x y) b ≡ false
-unfolding holds rowOf
-holds-other kind x y b e = rw e (go (eqb kind 1) (eqb kind 3) (eqb kind 4) (eqb kind 5) (eqb kind 6))
-  where
-    go : (p q r s t : Bool) → holds (cond p Empty (cond q (Text x y) (cond r (Alt x y) (cond s (Seq x y) (cond t (Star x) noRow))))) b ≡ false
-    go true q r s t = refl
-    go false true r s t = refl
-    go false false true s t = refl
-    go false false false true t = refl
-    go false false false false true = refl
-    go false false false false false = none-held b
 
 -- ---- the rows of a grammar
 
@@ -113,24 +97,24 @@ pub holders-start : (g : Grammar) (n : ℕ) → n ≡ 1024 → Holders g 0 (repl
 holders-start g n e = record { long = length-replicate n 0 ∙ e; bits = λ b q l m. zero-bit n b q ∙ rw (le-ltb q 0 (omega arith)) }
 
 module _ (g : Grammar) where
-  pub holders-more : (i : ℕ) (ws ws′ : List ℕ) → Holders g i ws → Added (holds (row g i)) i ws ws′ → Holders g (i + 1) ws′
+  pub holders-more : (i : ℕ) (ws ws′ : List ℕ) → Holders g i ws → Added (holdsByte (row g i)) i ws ws′ → Holders g (i + 1) ws′
   holders-more i ws ws′ h a = record { long = a .long ∙ h .long; bits = bits }
     where
-      bits : (b q : ℕ) → b < 256 → q < 256 → bitAt ws′ b q ≡ (ltb q (i + 1) && holds (row g q) b)
+      bits : (b q : ℕ) → b < 256 → q < 256 → bitAt ws′ b q ≡ (ltb q (i + 1) && holdsByte (row g q) b)
       bits b q l m = rw (a .bits b q l m, h .bits b q l m) (go (ℕ-discrete q i) (decLt q i))
         where
-          go : Dec (q ≡ i) → Dec (q < i) → ((eqb q i && holds (row g i) b) || (ltb q i && holds (row g q) b)) ≡ (ltb q (i + 1) && holds (row g q) b)
-          go (yes e) y = rw (e, eq-eqb i i refl, le-ltb i i (omega arith), lt-ltb i (i + 1) (omega arith)) (or-false (holds (row g i) b))
+          go : Dec (q ≡ i) → Dec (q < i) → ((eqb q i && holdsByte (row g i) b) || (ltb q i && holdsByte (row g q) b)) ≡ (ltb q (i + 1) && holdsByte (row g q) b)
+          go (yes e) y = rw (e, eq-eqb i i refl, le-ltb i i (omega arith), lt-ltb i (i + 1) (omega arith)) (or-false (holdsByte (row g i) b))
           go (no e) (yes y) = rw (ne-eqb q i e, lt-ltb q i y, lt-ltb q (i + 1) (omega arith))
           go (no e) (no y) = rw (ne-eqb q i e, le-ltb q i (omega arith), le-ltb q (i + 1) (omega arith))
 
   -- bytes of the same entry are held by the same rows
   pub rows-same : (ws : List ℕ) → length (g .rows) ≤ 256 → Holders g (length (g .rows)) ws → (b c : ℕ) → b < 256 → c < 256 → SameRows ws b c
-      → (r : ℕ) → holds (row g r) b ≡ holds (row g r) c
+      → (r : ℕ) → holdsByte (row g r) b ≡ holdsByte (row g r) c
   unfolding row
   rows-same ws few h b c l m e r = go (decLt r (length (g .rows)))
     where
-      go : Dec (r < length (g .rows)) → holds (row g r) b ≡ holds (row g r) c
+      go : Dec (r < length (g .rows)) → holdsByte (row g r) b ≡ holdsByte (row g r) c
       go (yes y) = let t : ltb r (length (g .rows)) ≡ true = lt-ltb _ _ y in sym (rw t at (h .bits b r l (omega arith))) ∙ e r ∙ rw t at (h .bits c r m (omega arith))
       go (no y) =
           let n : row g r ≡ noRow = List·getD-eq-default (g .rows) noRow (omega arith) in

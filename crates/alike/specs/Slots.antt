@@ -6,13 +6,11 @@ use mathlib.Core.List.{List}
 use lib.Dec.{eqb, ltb, leb}
 use lib.ListN.{length, getD}
 use Rattle.paper.specs.Rows.{Grammar, row}
-use Rattle.paper.specs.Sheet.{Sheet, Run, letter}
+use Rattle.paper.specs.Sheet.{Sheet, letter}
 use Rattle.workspace.specs.Bits.{bitAt}
 use Rattle.walk.specs.Counts.{Small}
-use Rattle.alike.specs.Untold.{holds, Absent}
-
-abbrev pub runOf : (first count : ℕ) → Run
-runOf first count = record { first = first; count = count }
+use Rattle.sheet_contents.specs.Ranges.{holdsByte}
+use Rattle.alike.specs.Untold.{Absent}
 
 -- ---- a table of four words a byte: entry b has the range rows that hold b
 
@@ -28,7 +26,7 @@ pub record Added (test : ℕ → Bool) (r : ℕ) (ws ws′ : List ℕ) : Type 0 
 -- of the rows below n
 pub record Holders (g : Grammar) (n : ℕ) (ws : List ℕ) : Type 0 where
   pub long : length ws ≡ 1024
-  pub bits : (b q : ℕ) → b < 256 → q < 256 → bitAt ws b q ≡ (ltb q n && holds (row g q) b)
+  pub bits : (b q : ℕ) → b < 256 → q < 256 → bitAt ws b q ≡ (ltb q n && holdsByte (row g q) b)
 
 -- the same range rows hold b and c
 abbrev pub SameRows : List ℕ → (b c : ℕ) → Type 0

@@ -3,21 +3,13 @@ use Prim.Native.Nat.{ℕ, _+_, _≤_, _<_}
 use mathlib.Core.Path.{_≡_}
 use mathlib.Core.Bool.{Bool, true, false, _&&_}
 use mathlib.Core.List.{List}
-use lib.Dec.{leb}
 use lib.ListN.{length, getD}
 use Rattle.paper.specs.Tests.{anyOf, Every}
-use Rattle.paper.specs.Rows.{Row, Empty, Range, Text, Alt, Seq, Star, row}
+use Rattle.paper.specs.Rows.{Text, row}
 use Rattle.paper.specs.Terms.{Part, Const, All, Cut}
-use Rattle.paper.specs.Sheet.{Sheet, Claim, Derived, Contains, Equals, Assertion, Run, secondRun, letter, partsOf}
-
--- a row is a range that holds the byte
-unfoldable pub holds : Row → ℕ → Bool
-holds Empty b = false
-holds (Range lo hi) b = leb lo b && leb b hi
-holds (Text off len) b = false
-holds (Alt x y) b = false
-holds (Seq x y) b = false
-holds (Star x) b = false
+use Rattle.paper.specs.Sheet.{Sheet, Assertion, Run, secondRun, letter, partsOf}
+use Rattle.paper.proofs.Sound.{SoundPart, SoundAssertion}
+use Rattle.sheet_contents.specs.Ranges.{holdsByte}
 
 -- the byte is none of the text's
 abbrev pub Absent : List ℕ → ℕ → Type 0
@@ -41,27 +33,20 @@ comparesV s a = usesV s (a .term) && usesV s (secondRun (a .claim))
 unfoldable pub someCompares : Sheet → Bool
 someCompares s = anyOf (comparesV s) (s .assertions)
 
--- a part, and a claim, whose constant lies in a text of so many bytes
-abbrev pub PartInside : ℕ → Part → Type 0
-PartInside n (Const a b) = a + b ≤ n
-PartInside n All = Unit {0}
-PartInside n (Cut a b) = Unit {0}
-
-abbrev pub ClaimInside : ℕ → Claim → Type 0
-ClaimInside n (Derived r) = Unit {0}
-ClaimInside n (Contains a b) = a + b ≤ n
-ClaimInside n (Equals a b) = Unit {0}
+-- an assertion's numbers are within the sheet
+abbrev pub SoundIn : Sheet → Assertion → Type 0
+SoundIn s a = SoundAssertion (length (s .grammar .text)) (length (s .grammar .rows)) (length (s .parts)) a
 
 -- each constant that the sheet names lies in its text
 pub record Inside (s : Sheet) : Type 0 where
   pub rows : (r a b : ℕ) → row (s .grammar) r ≡ Text a b → a + b ≤ length (s .grammar .text)
-  pub parts : Every (PartInside (length (s .grammar .text))) (s .parts)
-  pub claims : Every (λ a. ClaimInside (length (s .grammar .text)) (a .claim)) (s .assertions)
+  pub parts : Every (SoundPart (length (s .grammar .text))) (s .parts)
+  pub assertions : Every (SoundIn s) (s .assertions)
 
 -- b and c are letters that rows and text do not tell apart
 pub record Untold (s : Sheet) (b c : ℕ) : Type 0 where
   pub letter-one : letter s b ≡ true
   pub letter-two : letter s c ≡ true
-  pub rows : (r : ℕ) → holds (row (s .grammar) r) b ≡ holds (row (s .grammar) r) c
+  pub rows : (r : ℕ) → holdsByte (row (s .grammar) r) b ≡ holdsByte (row (s .grammar) r) c
   pub absent-one : Absent (s .grammar .text) b
   pub absent-two : Absent (s .grammar .text) c

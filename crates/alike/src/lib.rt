@@ -6,9 +6,9 @@ ghost use mathlib.Core.Path.{_≡_};
 ghost use mathlib.Core.Bool.{true};
 ghost use Prim.Native.Nat.{_≤_, _<_};
 ghost use lib.ListN.{length};
-ghost use Rattle.paper.specs.Refusals.{refusal};
 ghost use Rattle.paper.specs.Sheet.{letter, sheetOf};
 ghost use Rattle.paper.specs.Opens.{opens};
+ghost use Rattle.sheet.specs.Good.{Good};
 ghost use Rattle.walk.specs.Counts.{Small};
 ghost use Rattle.walk.specs.Progress.{Classes};
 ghost use Rattle.alike.specs.Slots.{BarsOthers, TextBarred, Barred, OwnerLike, SlotFor, Given};
@@ -24,7 +24,7 @@ struct Bars {
 }
 
 fn bar_of(s: &[u8], b: u8) -> u8
-    requires { ⌜ refusal (now s) ≡ 0 ⌝ }
+    requires { ⌜ Good (now s) ⌝ }
     ensures { λ r. ⌜ (r ≡ 0 → letter (sheetOf (now (s .entry))) b ≡ true) ⌝ }
 {
     if sheet::is_letter(s, b) {
@@ -35,7 +35,7 @@ fn bar_of(s: &[u8], b: u8) -> u8
 
 // No byte but a letter may have one.
 fn bar_others(s: &[u8]) -> Bars
-    requires { ⌜ refusal (now s) ≡ 0 ⌝ }
+    requires { ⌜ Good (now s) ⌝ }
     ensures { λ r. ⌜ BarsOthers (sheetOf (now (s .entry))) 256 (r .of) ⌝ }
 {
     let mut bars = Bars { of: [0u8; 256] };
@@ -61,7 +61,7 @@ fn bar_text(mut bars: Bars, text: &[u8]) -> Bars
 }
 
 fn barred(s: &[u8]) -> Bars
-    requires { ⌜ refusal (now s) ≡ 0 ⌝ }
+    requires { ⌜ Good (now s) ⌝ }
     ensures { λ r. ⌜ Barred (sheetOf (now (s .entry))) (r .of) ⌝ }
 {
     let bars = bar_others(s);
@@ -160,7 +160,7 @@ fn given(ws: &[u64], bars: &[u8; 256]) -> Slots
 
 // Where the sheet compares v with v no two letters are known to be alike.
 pub fn slots_of(s: &[u8]) -> Slots
-    requires { ⌜ refusal (now s) ≡ 0 ⌝ }
+    requires { ⌜ Good (now s) ⌝ }
     ensures { λ r. ⌜ Classes (opens (sheetOf (now (s .entry)))) (r .of) × Small (r .of) ⌝ }
 {
     if compare::some_compares(s) {

@@ -1,13 +1,12 @@
 -- The loop that carries a span's rows back along the steps that keep the length, in place.
 -- Assumes nothing.
-use Prim.Native.Nat.{ℕ, suc, _+_, _≤_, _<_}
-use mathlib.Core.Path.{_≡_, refl, sym, ap, _∙_, subst}
-use mathlib.Core.Bool.{Bool, true, false, _&&_, _||_, and-false, true≢false}
+use Prim.Native.Nat.{ℕ, _+_, _≤_, _<_}
+use mathlib.Core.Path.{_≡_, sym, _∙_, subst}
+use mathlib.Core.Bool.{true, false, _||_, and-false}
 use mathlib.Core.Logic.{_⊎_, inl, inr}
 use mathlib.Core.List.{List}
 use native.Mathlib.Omega.{arith}
 use native.Mathlib.Decide.{decLt}
-use lib.ListN.{length}
 use Rattle.paper.proofs.Tests.{any-intro, any-elim, and-intro, and-left, and-right, or-left, or-right, or-cases, and-true, same-test}
 use Rattle.workspace.specs.Bits.{bitAt, noneAt}
 use Rattle.workspace.proofs.Bits.{none-bit}

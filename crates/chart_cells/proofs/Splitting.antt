@@ -1,15 +1,14 @@
 -- The loops over the pairs and over the splits, a turn each.
 -- Assumes nothing.
 use Prim.Native.Nat.{ℕ, zero, suc, _+_, _-_, _/_, _%_, _≤_, _<_}
-use mathlib.Core.Path.{_≡_, refl, sym, ap, _∙_, subst}
+use mathlib.Core.Path.{_≡_, sym, ap, _∙_, subst}
 use mathlib.Core.Logic.{_≢_}
-use mathlib.Core.Bool.{Bool, true, false, _&&_, _||_, or-comm, and-false}
+use mathlib.Core.Bool.{Bool, true, false, _||_, or-comm, and-false}
 use mathlib.Core.List.{List}
 use native.Mathlib.Omega.{arith}
 use native.Mathlib.Numerals.{add-one}
 use native.Mathlib.Nat.{not-suc-le-zero}
-use lib.Dec.{eqb}
-use lib.ListN.{length, getD}
+use lib.ListN.{getD}
 use Rattle.paper.specs.Tests.{anyBelow}
 use Rattle.paper.proofs.Tests.{any-suc, any-none, any-intro, any-elim, same-test}
 use Rattle.workspace.specs.Spans.{tri, spanAt}
@@ -18,7 +17,7 @@ use Rattle.workspace.proofs.Bits.{none-bit}
 use Rattle.workspace.proofs.Spans.{span-inj}
 use Rattle.groundwork.specs.Ground.{pairsAt, countAt}
 use Rattle.chart_cells.specs.Steps.{Kept, Adds, only, both, paired, parted}
-use Rattle.chart_cells.proofs.Adding.{only-off, adds-none, adds-same, adds-then}
+use Rattle.chart_cells.proofs.Adding.{only-off, adds-none, adds-then}
 
 -- one number more, at the end
 pub any-more : (n : ℕ) (f : ℕ → Bool) → (anyBelow n f || f n) ≡ anyBelow (n + 1) f

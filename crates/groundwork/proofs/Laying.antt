@@ -19,8 +19,7 @@ use Rattle.workspace.proofs.Spans.{lt-or-le}
 use Rattle.workspace.proofs.Words.{of-four}
 use Rattle.workspace.proofs.Bits.{length-wiped, wiped-bit, wiped-apart, copied-bit, copied-apart}
 use Rattle.sheet_trailer.specs.declared.Table.{Table}
-use Rattle.sheet.specs.Good.{Good}
-use Rattle.sheet.proofs.Contents.{text-length}
+use Rattle.sheet.proofs.Contents.{text-few}
 use Rattle.rows.specs.Sets.{Nulls, Reached, RowsAt}
 use Rattle.sheet.proofs.Rows.{rows-few, rows-all}
 use Rattle.groundwork.specs.Ground.{Ground, pairsAt, pairWord, Splits, someLetter}
@@ -93,9 +92,6 @@ pub texts-wiped : (ws a b c d : List ℕ) → a ≡ wiped ws 258 → b ≡ wiped
 texts-wiped ws a b c d p q r s long =
     rw (s, r, q, p)
     (no-texts ws long, below-then (below-wiped ws 258 (omega arith)) (below-then (below-wiped _ 259 (omega arith)) (below-then (below-wiped _ 260 (omega arith)) (below-wiped _ 261 (omega arith)))))
-
-pub text-few : (s text : List ℕ) → Good s → text ≡ textOf s → length text ≤ 1024
-text-few s text g p = omega (arith, ap length p, text-length s g, g .counts 1 (omega arith) .1)
 
 -- the bit of another byte is kept
 text-other : (ws : List ℕ) (n : ℕ) (on : Bool) (k : ℕ) → k ≢ n → textBit (putBit on ws (258 + n / 256) (n % 256)) k ≡ textBit ws k
@@ -213,4 +209,4 @@ module _ {s : List ℕ} {t : Table} (here : RowsAt s t) where
       → Texts (sheetOf s) (textOf s) (length (textOf s)) c → Below 1032 b c
       → Pairs (grammarOf s) (t .count) j d → Below 1048 c d → Lengths (grammarOf s) (t .count) x → Ground (sheetOf s) (set (set d 1304 x) 1305 j)
   unfolding sheetOf grammarOf
-  laid = laid-of (sheetOf s) (t .count) (rows-all (here .table)) (rows-few (here .good) (here .table)) (text-few s (textOf s) (here .good) refl)
+  laid = laid-of (sheetOf s) (t .count) (rows-all (here .table)) (rows-few (here .good) (here .table)) (text-few s (here .good) (textOf s) refl)

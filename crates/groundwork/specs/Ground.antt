@@ -3,12 +3,11 @@
 -- a word for the lengths of text rows, and a word for the number of pairs.
 use Prim.Native.Nat.{ℕ, suc, _+_, _*_, _-_, _/_, _%_, _<_, _≤_}
 use mathlib.Core.Path.{_≡_}
-use mathlib.Core.Bool.{Bool, true, false, _&&_}
+use mathlib.Core.Bool.{Bool, false}
 use mathlib.Core.List.{List}
-use lib.Dec.{ltb}
 use lib.ListN.{length, getD}
 use Rattle.paper.specs.Tests.{anyBelow}
-use Rattle.paper.specs.Rows.{Row, Empty, Range, Text, Alt, Seq, Star, Grammar, row}
+use Rattle.paper.specs.Rows.{Row, Empty, Range, Text, Alt, Seq, Star, row}
 use Rattle.paper.specs.Decide.{nullable, reaches}
 use Rattle.paper.specs.Sheet.{Sheet, letter}
 use Rattle.workspace.specs.Bits.{bit, bitAt}

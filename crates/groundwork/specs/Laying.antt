@@ -1,13 +1,13 @@
 -- What each step leaves while the groundwork is laid. The steps write at rising words, so one frame serves: a step keeps the words below its own.
 use Prim.Native.Nat.{ℕ, _+_, _/_, _%_, _<_, _≤_}
 use mathlib.Core.Path.{_≡_}
-use mathlib.Core.Bool.{Bool, false, cond}
+use mathlib.Core.Bool.{Bool, false}
 use mathlib.Core.List.{List}
 use lib.ListN.{length, getD}
 use Rattle.paper.specs.Rows.{Row, Text, Grammar, row}
 use Rattle.paper.specs.Decide.{nullable, reaches}
 use Rattle.paper.specs.Sheet.{Sheet, letter}
-use Rattle.workspace.specs.Bits.{bit, bitAt, setBit}
+use Rattle.workspace.specs.Bits.{bit, bitAt}
 use Rattle.groundwork.specs.Ground.{pairsAt, pairWord, Splits, someLetter}
 
 -- the words below k are kept

@@ -1,16 +1,17 @@
 // A sheet's letters, as the walk has them.
 ghost use mathlib.Core.Path.{_≡_};
 ghost use Prim.Native.Nat.{ℕ};
-ghost use Rattle.paper.specs.Refusals.{refusal};
+ghost use Rattle.sheet.specs.Good.{Good};
 ghost use Rattle.paper.specs.Sheet.{sheetOf, letter};
 ghost use Rattle.walk_state.specs.Letters.{hasLetter};
 
 pub fn letters_of(s: &[u8]) -> walk_state::Letters
-    requires { ⌜ refusal (now s) ≡ 0 ⌝ }
+    requires { ⌜ Good (now s) ⌝ }
     ensures { λ r. ⌜ ((b : ℕ) → hasLetter (r .of) b ≡ letter (sheetOf (now (s .entry))) b) ⌝ }
 {
-    let at = sheet_trailer::field(s, 2);
-    let n = sheet_trailer::field(s, 3);
+    let t = sheet_trailer::table_of(s, 0);
+    let at = t.at;
+    let n = t.count;
     let mut l = walk_state::Letters::none();
     let mut i = 0;
     while i < n {

@@ -5,7 +5,6 @@ ghost use mathlib.Core.Path.{_≡_};
 ghost use Prim.Native.Nat.{_≤_};
 ghost use lib.ListN.{length, take};
 ghost use Rattle.paper.specs.Trailer.{longest};
-ghost use Rattle.paper.specs.Refusals.{refusal};
 ghost use Rattle.paper.specs.Sheet.{sheetOf};
 ghost use Rattle.paper.specs.Opens.{opens};
 ghost use Rattle.paper.specs.Walk.{walk as «walk-of»};
@@ -13,7 +12,7 @@ ghost use Rattle.paper.specs.Answers.{under};
 ghost use Rattle.walk_state.specs.Letters.{hasLetter};
 ghost use Rattle.walk.specs.Counts.{Small};
 ghost use Rattle.walk.specs.Progress.{Classes};
-ghost use Rattle.groundwork.specs.Ground.{Ground};
+ghost use Rattle.groundwork.specs.Lent.{Lent};
 ghost use Rattle.workspace.specs.Within.{Within};
 ghost use Rattle.search.specs.Tells.{Tells};
 
@@ -38,7 +37,7 @@ fn wordless(number: u8, trials: u64) -> Sought
 
 // The first `len` bytes are open at n.
 fn judged(s: &[u8], bytes: &[u8], len: usize, n: usize, lay: &[u64], work: &mut [u64]) -> bool
-    requires { ⌜ (refusal (now s) ≡ 0) × Ground (sheetOf (now s)) (now lay) × (len ≤ n) × (len ≤ length (now bytes)) × (n ≤ longest (now s)) × (7564 ≤ length (now work)) ⌝ }
+    requires { ⌜ Lent (now s) (now lay) (now work) × (len ≤ n) × (len ≤ length (now bytes)) × (n ≤ longest (now s)) ⌝ }
     ensures { λ r. ⌜ (r ≡ opens (sheetOf (now (s .entry))) n (take len (now (bytes .entry)))) × Within (now (work .entry)) (now (work .exit)) ⌝ }
 {
     judge::opens(s, &bytes[0..len], n, lay, work)
@@ -54,7 +53,7 @@ pub fn seek(
     lay: &[u64],
     work: &mut [u64],
 ) -> Sought
-    requires { ⌜ (refusal (now s) ≡ 0) × Ground (sheetOf (now s)) (now lay) × (lo ≤ hi) × (hi ≡ longest (now s)) × Classes (opens (sheetOf (now s))) (now slot) × Small (now slot) × (7564 ≤ length (now work)) ⌝ }
+    requires { ⌜ Lent (now s) (now lay) (now work) × (lo ≤ hi) × (hi ≡ longest (now s)) × Classes (opens (sheetOf (now s))) (now slot) × Small (now slot) ⌝ }
     ensures { λ r. ⌜ Tells hi (under budget («walk-of» (hasLetter (letters .of)) (opens (sheetOf (now (s .entry)))) lo hi)) r × Within (now (work .entry)) (now (work .exit)) ⌝ }
 {
     let mut counts = [0u64; 480];

@@ -1,7 +1,7 @@
 -- What a read sheet holds: its lists by their counts, and the records that stand in them.
 -- Assumes nothing.
-use Prim.Native.Nat.{ℕ, _+_, _<_}
-use mathlib.Core.Path.{_≡_, ap, _∙_}
+use Prim.Native.Nat.{ℕ, _+_, _<_, _≤_}
+use mathlib.Core.Path.{_≡_, refl, ap, _∙_}
 use mathlib.Core.List.{List}
 use mathlib.Core.Bool.{Bool, true, false, _&&_}
 use lib.ListN.{length, getD, length-drop}
@@ -79,3 +79,19 @@ some-letter s byte g =
     let few : 0 < countOf s 0 = g .counts 0 (omega arith) .0 in
     let low : leb b b ≡ true = le-leb b b (omega arith) in
     (b, byte _, letter-is s b (byte _) ∙ any-intro (countOf s 0) (inSpan s b) 0 few (and-intro low (le-leb _ _ (g .letters 0 few))))
+
+-- the grammar and the text of a read sheet, and how large they are at most
+module _ (s : List ℕ) where
+  pub grammar-is : sheetOf s .grammar ≡ grammarOf s
+  unfolding sheetOf
+  grammar-is = refl
+
+  pub text-is : sheetOf s .grammar .text ≡ textOf s
+  unfolding sheetOf grammarOf
+  text-is = refl
+
+  pub grammar-few : Good s → length (sheetOf s .grammar .rows) ≤ 256
+  grammar-few g = rw grammar-is (omega (arith, rows-length s, g .counts 2 (omega arith) .1))
+
+  pub text-few : Good s → (text : List ℕ) → text ≡ textOf s → length text ≤ 1024
+  text-few g text e = omega (arith, ap length e, text-length s g, g .counts 1 (omega arith) .1)

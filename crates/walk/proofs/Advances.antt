@@ -1,52 +1,49 @@
 -- The ends of the step that follows a judgement.
 use mathlib.Core.Path.{_≡_, sym, _∙_}
-use Prim.Native.Nat.{ℕ, _+_, _*_, _≤_, _<_}
+use Prim.Native.Nat.{ℕ, _*_, _≤_, _<_}
 use native.Mathlib.Omega.{arith}
 use native.Mathlib.Numerals.{add-one}
 use mathlib.Core.Bool.{Bool, true, false, true≢false}
 use mathlib.Core.List.{List}
-use lib.ListN.{length, take, length-set}
-use lib.Seq.{getD-set-other}
+use lib.ListN.{length, take}
 use Rattle.walk_state.specs.declared.State.{State}
 use Rattle.walk_state.specs.Letters.{First}
 use Rattle.walk_state.specs.Moves.{downOf, countedOf}
 use Rattle.walk.specs.Counts.{Small, wiped}
 use Rattle.walk.specs.Progress.{Judging, Finished}
-use Rattle.walk.specs.Posts.{Climbed, Advanced}
+use Rattle.walk.specs.Posts.{Frame, Climbed, Advanced}
 use Rattle.walk.proofs.Counts.{wiped-length, wiped-low, wiped-row}
 use Rattle.walk.proofs.Steps.{down-step, shut-step, stuck-step}
+use Rattle.walk.proofs.Frames.{frame-down, frame-counted, frame-before}
 use Rattle.walk.proofs.Known.{knows-down}
 
 module _ (is : ℕ → Bool) (slot : List ℕ) (budget n : ℕ) (q : State) (m : List ℕ) (h : q .prefix .len ≤ n) (top : n ≤ 60)
     (lt : q .trials < budget) (fine : q .over ≡ false) where
   -- open, and there is a letter
-  pub adv-down : (b : ℕ) → length (q .prefix .bytes) ≡ 60 → length (q .begun) ≡ 61 → 480 ≤ length m → Small slot → q .prefix .len < n → First is 0 b → b < 256
+  pub adv-down : (b : ℕ) → Frame budget q q → 480 ≤ length m → Small slot → q .prefix .len < n → First is 0 b → b < 256
       → Advanced is slot budget n true q m (downOf (countedOf q 1) b) (wiped m (8 * q .prefix .len) 8)
-  adv-down b l v u sm y f g = record {
-    within = omega arith;
-    more = omega arith;
-    most = omega arith;
-    root = getD-set-other (q .begun) (q .prefix .len + 1) 0 (q .trials + 1) 0 (omega arith);
-    letters = simp length-set l;
-    notes = simp length-set v;
-    tallies = wiped-length m (8 * q .prefix .len) 8;
-    to = λ opens c a e x. rw add-one (down-step is opens n (q .prefix .len) (q .prefix .bytes) (q .begun) (q .trials) b (a .0) y (omega arith) (omega arith) e f g, knows-down is slot sm opens n (q .prefix .len) (q .prefix .bytes) m (wiped m (8 * q .prefix .len) 8) b (wiped-low m (8 * q .prefix .len) 8) (λ s z. wiped-row m (8 * q .prefix .len) 8 s z (omega arith)) (a .1));
-    past = λ opens c a e x. absurd (true≢false (sym x ∙ fine));
-  }
+  adv-down b i u sm y f g =
+      let l = i .letters in
+      let v = i .notes in
+      record {
+        within = omega arith;
+        more = omega arith;
+        frame = frame-down budget q (countedOf q 1) (frame-counted budget q q i 1 (omega arith)) b (omega arith);
+        tallies = wiped-length m (8 * q .prefix .len) 8;
+        to = λ opens c a e x. rw add-one (down-step is opens n (q .prefix .len) (q .prefix .bytes) (q .begun) (q .trials) b (a .0) y (omega arith) (omega arith) e f g, knows-down is slot sm opens n (q .prefix .len) (q .prefix .bytes) m (wiped m (8 * q .prefix .len) 8) b (wiped-low m (8 * q .prefix .len) 8) (λ s z. wiped-row m (8 * q .prefix .len) 8 s z (omega arith)) (a .1));
+        past = λ opens c a e x. absurd (true≢false (sym x ∙ fine));
+      }
 
   climbed : (ok : Bool) (r : State) (m′ : List ℕ) → Climbed is slot budget (countedOf q 1) m r m′
       → ((opens : ℕ → List ℕ → Bool) → Judging is slot opens n q m → opens n (take (q .prefix .len) (q .prefix .bytes)) ≡ ok → Finished is slot opens n (countedOf q 1) m)
       → Advanced is slot budget n ok q m r m′
   climbed ok r m′ k d =
       let y = k .shorter in
-      let z = k .more in
+      let z = k .frame .more in
       record {
         within = omega arith;
         more = omega arith;
-        most = k .most;
-        root = k .root;
-        letters = k .letters;
-        notes = k .notes;
+        frame = frame-before budget q r 1 (k .frame);
         tallies = k .tallies;
         to = λ opens c a e x. k .to opens n c (d opens a e) x;
         past = λ opens c a e x. k .past opens n c (d opens a e) x;

@@ -3,6 +3,7 @@ pub mod Runs
 pub mod Alike
 pub mod Steps
 pub mod Known
+pub mod Frames
 pub mod Climbs
 pub mod Advances
 pub mod Ends

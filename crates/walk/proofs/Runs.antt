@@ -1,11 +1,11 @@
 -- Laws of walks one after the other, of runs of walks, and of their counts.
-use mathlib.Core.Path.{_≡_, refl, ap, _∙_}
+use mathlib.Core.Path.{_≡_, ap, _∙_}
 use Prim.Native.Nat.{ℕ, zero, suc, _+_, _-_, _≤_, _<_}
 use native.Mathlib.Nat.{add-assoc, zero-add}
 use native.Mathlib.Omega.{arith}
 use mathlib.Core.Bool.{Bool, true, false}
 use mathlib.Core.List.{List, [], _∷_, _++_}
-use Rattle.paper.specs.Walk.{Walked, found, none, plus, then, count, run, rising, tree}
+use Rattle.paper.specs.Walk.{Walked, found, none, plus, then, run, rising, tree}
 
 pub plus-zero : (o : Walked) → plus 0 o ≡ o
 plus-zero (found w t) = ap (found w) (zero-add t)

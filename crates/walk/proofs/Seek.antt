@@ -4,15 +4,15 @@ use Prim.Native.Nat.{ℕ, zero, suc, _+_, _≤_, _<_}
 use native.Mathlib.Omega.{arith}
 use mathlib.Core.Bool.{Bool, true, false}
 use mathlib.Core.List.{List}
-use lib.ListN.{length, take, getD, set, length-set}
+use lib.ListN.{length, take, getD, set}
 use lib.Seq.{getD-set-same}
 use Rattle.paper.specs.Walk.{walk}
 use Rattle.paper.specs.Answers.{Found, None, Spent, under}
 use Rattle.walk_state.specs.declared.State.{State}
-use Rattle.walk_state.specs.Moves.{startState, againOf, Marks}
+use Rattle.walk_state.specs.Moves.{startState, againOf}
 use Rattle.walk.specs.Progress.{Classes, Judging, Landed, Landing, At, Knows}
-use Rattle.walk.specs.Posts.{Advanced}
-use Rattle.walk.proofs.Steps.{marks-below}
+use Rattle.walk.specs.Posts.{Frame, Advanced}
+use Rattle.walk.proofs.Frames.{frame-start, frame-here, frame-again}
 use Rattle.walk.proofs.Ends.{Length, first-length, next-length, at-root, judging-over, end-found, end-none, end-over}
 
 module _ (is : ℕ → Bool) (slot : List ℕ) (opens : ℕ → List ℕ → Bool) (lo hi budget : ℕ) where
@@ -21,9 +21,7 @@ module _ (is : ℕ → Bool) (slot : List ℕ) (opens : ℕ → List ℕ → Boo
     pub range : n ≤ hi
     pub top : hi ≤ 60
     pub within : q .prefix .len ≤ n
-    pub most : q .trials ≤ budget
-    pub letters : length (q .prefix .bytes) ≡ 60
-    pub notes : length (q .begun) ≡ 61
+    pub frame : Frame budget q q
     pub tallies : 480 ≤ length m
     pub fine : q .over ≡ false
     pub sofar : Length is slot opens lo hi n (getD (q .begun) 0 0)
@@ -34,9 +32,7 @@ module _ (is : ℕ → Bool) (slot : List ℕ) (opens : ℕ → List ℕ → Boo
     range = h;
     top = t;
     within = omega arith;
-    most = omega arith;
-    letters = refl;
-    notes = refl;
+    frame = frame-start budget startState (omega arith) refl refl (omega arith) (λ j i. let z : j ≡ 0 = omega arith in rw z (omega arith));
     tallies = v;
     fine = refl;
     sofar = first-length is slot opens lo hi;
@@ -52,11 +48,6 @@ module _ (is : ℕ → Bool) (slot : List ℕ) (opens : ℕ → List ℕ → Boo
       go (suc k) h d = d
 
   module _ (n : ℕ) (q : State) (m : List ℕ) (s : Seeking n q m) where
-    pub seek-marks : Marks q
-    seek-marks =
-        let a = s .at .0 .mark in
-        marks-below is opens n (q .prefix .len) (q .prefix .bytes) (q .begun) (q .trials) (s .at .0 .parts) (omega arith)
-
     -- the prefix at hand is the word
     pub seek-found : q .trials < budget → q .prefix .len ≡ n → opens n (take (q .prefix .len) (q .prefix .bytes)) ≡ true
         → under budget (walk is opens lo hi) ≡ Found (take (q .prefix .len) (q .prefix .bytes)) (q .trials + 1)
@@ -75,7 +66,7 @@ module _ (is : ℕ → Bool) (slot : List ℕ) (opens : ℕ → List ℕ → Boo
 
       -- the last length is done
       pub seek-none : r .over ≡ false → r .prefix .len ≡ 0 → n ≡ hi → under budget (walk is opens lo hi) ≡ None (r .trials)
-      seek-none x e f = end-none is slot opens lo hi budget n (getD (q .begun) 0 0) r m′ f e (a .most) (a .root) (s .sofar) (a .to opens classes (s .at) o x)
+      seek-none x e f = end-none is slot opens lo hi budget n (getD (q .begun) 0 0) r m′ f e (a .frame .most) (a .frame .root) (s .sofar) (a .to opens classes (s .at) o x)
 
       -- the next prefix
       pub seek-next : r .over ≡ false → (r .prefix .len ≡ 0 → ⊥) → Seeking n r m′
@@ -86,19 +77,17 @@ module _ (is : ℕ → Bool) (slot : List ℕ) (opens : ℕ → List ℕ → Boo
             range = s .range;
             top = s .top;
             within = a .within;
-            most = a .most;
-            letters = a .letters;
-            notes = a .notes;
+            frame = frame-here budget q r (a .frame);
             tallies = omega arith;
             fine = x;
-            sofar = rw (a .root) (s .sofar);
+            sofar = rw (a .frame .root) (s .sofar);
             at = landed-judging n r m′ e (a .to opens classes (s .at) o x);
           }
 
       -- the next length
       pub seek-length : r .over ≡ false → r .prefix .len ≡ 0 → (n ≡ hi → ⊥) → Seeking (n + 1) (againOf r) m′
       seek-length x e f =
-          let l = a .notes in
+          let l = a .frame .notes in
           let y = a .tallies in
           let z = s .tallies in
           let k = s .range in
@@ -107,11 +96,9 @@ module _ (is : ℕ → Bool) (slot : List ℕ) (opens : ℕ → List ℕ → Boo
             range = omega arith;
             top = s .top;
             within = omega arith;
-            most = a .most;
-            letters = a .letters;
-            notes = simp length-set l;
+            frame = frame-again budget q r (a .frame);
             tallies = omega arith;
             fine = x;
-            sofar = rw g (next-length is slot opens lo hi n (getD (q .begun) 0 0) r m′ (omega arith) e (a .root) (s .sofar) (a .to opens classes (s .at) o x));
+            sofar = rw g (next-length is slot opens lo hi n (getD (q .begun) 0 0) r m′ (omega arith) e (a .frame .root) (s .sofar) (a .to opens classes (s .at) o x));
             at = rw e (at-root is slot opens lo hi (n + 1) (r .prefix .bytes) (set (r .begun) 0 (r .trials)) m′ (r .trials) g);
           }

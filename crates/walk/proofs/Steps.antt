@@ -19,11 +19,6 @@ span a b c o h l =
     let z : (b - a) + (c - b) ≡ c - a = omega arith in
     sym (plus-plus (b - a) (c - b) o) ∙ rw z
 
-span-none : (a b c : ℕ) → a ≤ b → b ≤ c → plus (b - a) (plus (c - b) (none 0)) ≡ none (c - a)
-span-none a b c h l =
-    let z : (b - a) + (c - b) ≡ c - a = omega arith in
-    rw (add-zero, z)
-
 module _ (is : ℕ → Bool) (opens : ℕ → List ℕ → Bool) where
   -- the parts before the place k do not see it, nor the mark behind it
   parts-set : (n k : ℕ) (w s : List ℕ) (c x : ℕ) → Parts is opens n k w s → Parts is opens n k (set w k c) (set s (suc k) x)
@@ -143,21 +138,6 @@ module _ (is : ℕ → Bool) (opens : ℕ → List ℕ → Bool) where
       let q = p k (omega arith) in
       let o = q .order in
       whole-count n k w s t (before n k w s p) (rw (q .left, count-plus) (omega (arith, count-then (tree is opens n (n - suc k) (take (suc k) w)) (kids is opens n k w (suc (getD w k 0))))))
-
-  -- the prefixes of the one at hand were begun no later than it
-  pub marks-below : (n k : ℕ) (w s : List ℕ) (t : ℕ) → Parts is opens n k w s → getD s k 0 ≤ t → (j : ℕ) → j ≤ k → getD s j 0 ≤ t
-  marks-below n zero w s t p h j l =
-      let z : j ≡ 0 = omega arith in
-      rw z h
-  marks-below n (suc k) w s t p h j l =
-      let q = p k (omega arith) .order in
-      go (decLt k j) (marks-below n k w s t (before n k w s p) (omega arith) j)
-    where
-      go : Dec (k < j) → (j ≤ k → getD s j 0 ≤ t) → getD s j 0 ≤ t
-      go (yes m) f =
-          let z : j ≡ suc k = omega arith in
-          rw z h
-      go (no m) f = f (omega arith)
 
   -- a prefix that is done after more trials than the budget has: so it is with the whole length
   pub done-over : (n k : ℕ) (w s : List ℕ) (t budget : ℕ) → Done is opens n k w s t → budget < t → budget < getD s 0 0 + count (tree is opens n n [])

@@ -5,16 +5,23 @@ use mathlib.Core.Bool.{Bool, true, false}
 use mathlib.Core.List.{List}
 use lib.ListN.{length, getD, take}
 use Rattle.walk_state.specs.declared.State.{State}
+use Rattle.walk_state.specs.Moves.{Marks}
 use Rattle.walk.specs.Progress.{Classes, Judging, Finished, Landed, Over}
+
+-- the walk has come from p to q: q's sizes, its trials within the budget, its root that of p, and its marks
+pub record Frame (budget : ℕ) (p q : State) : Type 0 where
+  pub short : q .prefix .len ≤ 60
+  pub letters : length (q .prefix .bytes) ≡ 60
+  pub notes : length (q .begun) ≡ 61
+  pub more : p .trials ≤ q .trials
+  pub most : q .trials ≤ budget
+  pub root : getD (q .begun) 0 0 ≡ getD (p .begun) 0 0
+  pub marks : Marks q
 
 -- from q, whose prefix is done, to r; m and m′ are the counts before and after
 pub record Climbed (is : ℕ → Bool) (slot : List ℕ) (budget : ℕ) (q : State) (m : List ℕ) (r : State) (m′ : List ℕ) : Type 0 where
   pub shorter : r .prefix .len ≤ q .prefix .len
-  pub more : q .trials ≤ r .trials
-  pub most : r .trials ≤ budget
-  pub root : getD (r .begun) 0 0 ≡ getD (q .begun) 0 0
-  pub letters : length (r .prefix .bytes) ≡ 60
-  pub notes : length (r .begun) ≡ 61
+  pub frame : Frame budget q r
   pub tallies : length m′ ≡ length m
   pub to : (opens : ℕ → List ℕ → Bool) (n : ℕ) → Classes opens slot → Finished is slot opens n q m → r .over ≡ false → Landed is slot opens n r m′
   pub past : (opens : ℕ → List ℕ → Bool) (n : ℕ) → Classes opens slot → Finished is slot opens n q m → r .over ≡ true → Over is slot opens n budget q
@@ -23,10 +30,7 @@ pub record Climbed (is : ℕ → Bool) (slot : List ℕ) (budget : ℕ) (q : Sta
 pub record Advanced (is : ℕ → Bool) (slot : List ℕ) (budget n : ℕ) (ok : Bool) (q : State) (m : List ℕ) (r : State) (m′ : List ℕ) : Type 0 where
   pub within : r .prefix .len ≤ n
   pub more : q .trials < r .trials
-  pub most : r .trials ≤ budget
-  pub root : getD (r .begun) 0 0 ≡ getD (q .begun) 0 0
-  pub letters : length (r .prefix .bytes) ≡ 60
-  pub notes : length (r .begun) ≡ 61
+  pub frame : Frame budget q r
   pub tallies : length m′ ≡ length m
   pub to : (opens : ℕ → List ℕ → Bool) → Classes opens slot → Judging is slot opens n q m → opens n (take (q .prefix .len) (q .prefix .bytes)) ≡ ok
       → r .over ≡ false → Landed is slot opens n r m′

@@ -9,7 +9,7 @@ use native.Mathlib.Nat.{one-mul}
 use native.Mathlib.Omega.{arith}
 use native.Mathlib.Decide.{ℕ-discrete}
 use lib.ListN.{length, getD, set, length-set, length-append, length-replicate, length-drop, replicate, drop, getD-replicate, List·getD-append}
-use lib.Seq.{getD-set-same, getD-set-other, set-getD, set-out, drop-at, drop-set-lt}
+use lib.Seq.{getD-set-same, getD-set-other, set-out, drop-at, drop-set-lt}
 use lib.Pow.{shl-exact}
 use lib.Bits.{bitOr, bitAnd, and-mask}
 use lib.Dec.{eqb, ltb, lit<}
@@ -18,7 +18,7 @@ use borrow.Author.Tests.{eqb-true, lt-ltb, le-ltb}
 use Rattle.paper.specs.Answers.{zeroed}
 use Rattle.workspace.specs.Bits.{bit, bitAt, setBit, fourAt, wordAt, wiped, copied, joined, noneAt}
 use Rattle.workspace.proofs.Spans.{lt-or-le}
-use Rattle.workspace.proofs.Words.{bit-lt, bit-zero, bit-or, mark-same, mark-other, mark-idle, or-none-left, or-none-right, of-four, first, length-four, four-word, four-other, drop-four}
+use Rattle.workspace.proofs.Words.{bit-lt, bit-zero, bit-or, mark-same, mark-other, or-none-left, or-none-right, of-four, first, length-four, four-word, four-other, drop-four}
 
 -- ---- a bit in its word
 
@@ -83,19 +83,6 @@ module _ (ws : List ℕ) (s r : ℕ) where
   pub set-bit-apart : (t q : ℕ) → t ≢ s → r < 256 → bitAt (setBit ws s r) t q ≡ bitAt ws t q
   unfolding setBit
   set-bit-apart t q ne h = by-word (setBit ws s r) ws t t q (λ l. getD-set-other ws (4 * s + r / 64) (4 * t + q / 64) (marked ws s r) 0 (λ e. ne (omega arith)))
-
-  -- setting a set bit changes nothing
-  pub set-bit-idle : bitAt ws s r ≡ true → r < 256 → setBit ws s r ≡ ws
-  unfolding setBit
-  set-bit-idle e h = rw (mark-idle (wordAt ws s (r / 64)) (r % 64) (eqb-true _ 1 (sym (bit-in ws s r h) ∙ e))) (set-getD ws (4 * s + r / 64) 0)
-
-  -- no bit of the span is lost
-  pub set-bit-kept : (q : ℕ) → r < 256 → bitAt ws s q ≡ true → bitAt (setBit ws s r) s q ≡ true
-  set-bit-kept q h e = go (ℕ-discrete q r)
-    where
-      go : Dec (q ≡ r) → bitAt (setBit ws s r) s q ≡ true
-      go (yes k) = rw (set-bit-idle (rw k at e) h) e
-      go (no k) = set-bit-other q k ∙ e
 
   -- what lies past the span is kept
   pub drop-set-bit : (n : ℕ) → 4 * s + 4 ≤ n → r < 256 → drop n (setBit ws s r) ≡ drop n ws

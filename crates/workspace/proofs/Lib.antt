@@ -2,3 +2,4 @@ pub mod Spans
 pub mod Words
 pub mod Bits
 pub mod Room
+pub mod Places

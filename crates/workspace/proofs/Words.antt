@@ -9,7 +9,7 @@ use native.Mathlib.Omega.{arith}
 use lib.ListN.{length, getD, set, drop, length-set}
 use lib.Seq.{getD-set-same, getD-set-other, drop-set-lt}
 use lib.Pow.{pow-add, pow-lt, shl-shr}
-use lib.Bits.{bitOr, bitAnd, or-shr, or-mod, or-zero-r, or-add-and, and-high, and-le-l, and-le-r}
+use lib.Bits.{bitOr, or-shr, or-mod, or-zero-r, or-add-and, and-le-l, and-le-r}
 use Rattle.workspace.specs.Bits.{bit, fourAt, wordAt}
 use Rattle.workspace.proofs.Spans.{lt-or-le}
 
@@ -55,15 +55,6 @@ mark-same x k = bit-or x (2 ^ k) k ∙ ap (bitOr (bit x k)) (mask-same k) ∙ or
 
 pub mark-other : (x j k : ℕ) → j ≢ k → bit (bitOr x (2 ^ k)) j ≡ bit x j
 mark-other x j k ne = bit-or x (2 ^ k) j ∙ ap (bitOr (bit x j)) (mask-other j k ne) ∙ or-zero-r (bit x j)
-
--- the mask picks its bit
-mask-picks : (x k : ℕ) → bitAnd x (2 ^ k) ≡ bit x k * 2 ^ k
-unfolding bit
-mask-picks x k = ap (bitAnd x) (omega (arith, pow-add 2 1 k)) ∙ and-high x 1 k
-
--- marking what is marked changes nothing
-pub mark-idle : (x k : ℕ) → bit x k ≡ 1 → bitOr x (2 ^ k) ≡ x
-mark-idle x k h = omega (arith, or-add-and x (2 ^ k), mask-picks x k, ap (λ (z : ℕ). z * 2 ^ k) h)
 
 pub or-none-left : (x y : ℕ) → bitOr x y ≡ 0 → x ≡ 0
 or-none-left x y e = omega (arith, or-add-and x y, and-le-r x y)

@@ -1,37 +1,20 @@
-use mathlib.Core.Path.{_≡_}
 use Prim.Native.Nat.{_-_, _≤_}
-use native.Mathlib.Omega.{arith}
-use borrow.Author.Needs.{needs}
+use mathlib.Core.Path.{_≡_}
 use lib.ListN.{length, length-set}
 use Rattle.paper.specs.Sheet.{sheetOf}
 use Rattle.alike.specs.Slots.{BarsOthers}
 use Rattle.alike.proofs.Giving.{others-more}
+use borrow.Author.Needs.{needs}
+use native.Mathlib.Omega.{arith}
 use Rattle.alike.proofs.bar_others.Statement.{statement}
 use Rattle.alike.proofs.bar_others.Tie as tie
 
+-- the bytes below b that are no letters are barred
 abbrev Inv-loop : tie.InvT-loop
 Inv-loop s bars₀ b₀ bars b = (b ≤ 256) × (length (bars .of) ≡ 256) × BarsOthers (sheetOf s) b (bars .of)
 
 abbrev μ-loop : tie.MeasureT-loop
 μ-loop s bars₀ b₀ bars b = 256 - b
-
-loop-holds : tie.Need-loop-holds Inv-loop μ-loop
-loop-holds c = (omega arith, search needs, λ x l. absurd (omega arith))
-
-cast-bar-of : tie.Need-cast-bar-of Inv-loop μ-loop
-cast-bar-of c = omega arith
-
-bar-of-requires : tie.Need-bar-of-requires Inv-loop μ-loop
-bar-of-requires c κs = search needs
-
-element-write-bars : tie.Need-element-write-bars Inv-loop μ-loop
-element-write-bars c = omega arith
-
-add-b : tie.Need-add-b Inv-loop μ-loop
-add-b c = omega arith
-
-loop-less : tie.Need-loop-less Inv-loop μ-loop
-loop-less c = omega arith
 
 loop-again : tie.Need-loop-again Inv-loop μ-loop
 loop-again c =
@@ -50,11 +33,11 @@ bar-others-spec =
     (tie.spec
     Inv-loop
     μ-loop
-    loop-holds
-    cast-bar-of
-    bar-of-requires
-    element-write-bars
-    add-b
-    loop-less
+    (λ c. (omega arith, search needs, λ x l. absurd (omega arith)))
+    (λ c. omega arith)
+    (λ c κs. search needs)
+    (λ c. omega arith)
+    (λ c. omega arith)
+    (λ c. omega arith)
     loop-again
     returns)

@@ -1,36 +1,19 @@
-use mathlib.Core.Path.{_≡_}
 use Prim.Native.Nat.{_-_, _≤_}
-use native.Mathlib.Omega.{arith}
-use borrow.Author.Needs.{needs}
+use mathlib.Core.Path.{_≡_}
 use lib.ListN.{length, length-set}
 use Rattle.alike.specs.Slots.{TextBarred}
 use Rattle.alike.proofs.Giving.{text-none, text-more}
+use borrow.Author.Needs.{needs}
+use native.Mathlib.Omega.{arith}
 use Rattle.alike.proofs.bar_text.Statement.{statement}
 use Rattle.alike.proofs.bar_text.Tie as tie
 
+-- the first j bytes of the text are barred
 abbrev Inv-loop : tie.InvT-loop
 Inv-loop text bars₀ j₀ bars j = (j ≤ length text) × (length (bars .of) ≡ 256) × TextBarred text (bars₀ .of) (bars .of) j
 
 abbrev μ-loop : tie.MeasureT-loop
 μ-loop text bars₀ j₀ bars j = length text - j
-
-loop-holds : tie.Need-loop-holds Inv-loop μ-loop
-loop-holds c = (omega arith, search needs, text-none _ _)
-
-shared-slice-read-wide : tie.Need-shared-slice-read-wide Inv-loop μ-loop
-shared-slice-read-wide c = omega arith
-
-wide-requires : tie.Need-wide-requires Inv-loop μ-loop
-wide-requires c κs = search needs
-
-element-write-bars : tie.Need-element-write-bars Inv-loop μ-loop
-element-write-bars c = omega arith
-
-add-j : tie.Need-add-j Inv-loop μ-loop
-add-j c = omega arith
-
-loop-less : tie.Need-loop-less Inv-loop μ-loop
-loop-less c = omega arith
 
 loop-again : tie.Need-loop-again Inv-loop μ-loop
 loop-again c =
@@ -50,11 +33,11 @@ bar-text-spec =
     (tie.spec
     Inv-loop
     μ-loop
-    loop-holds
-    shared-slice-read-wide
-    wide-requires
-    element-write-bars
-    add-j
-    loop-less
+    (λ c. (omega arith, search needs, text-none _ _))
+    (λ c. omega arith)
+    (λ c κs. search needs)
+    (λ c. omega arith)
+    (λ c. omega arith)
+    (λ c. omega arith)
     loop-again
     returns)

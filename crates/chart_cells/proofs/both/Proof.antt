@@ -1,14 +1,7 @@
-use mathlib.Core.Path.{_≡_, refl, sym, ap, _∙_}
 use borrow.Author.Needs.{needs}
 use Rattle.chart_cells.specs.Steps.{both}
 use Rattle.chart_cells.proofs.both.Statement.{statement}
 use Rattle.chart_cells.proofs.both.Tie as tie
-
-test-requires : tie.Need-test-requires
-test-requires c κs = search needs
-
-test-requires-2 : tie.Need-test-requires-2
-test-requires-2 c κs = search needs
 
 returns : tie.Need-returns
 unfolding both
@@ -19,4 +12,4 @@ unfolding both
 returns-2 c = rw (← c .before .test .ensures, c .if1 .left)
 
 pub both-spec : {M : Type 1} → statement M
-both-spec = tie.close (tie.spec test-requires test-requires-2 returns returns-2)
+both-spec = tie.close (tie.spec (λ c κs. search needs) (λ c κs. search needs) returns returns-2)

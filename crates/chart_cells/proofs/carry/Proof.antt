@@ -1,5 +1,5 @@
 -- `chart::splits::carry` meets its contract. The loop's invariant is `Carrying`.
-use mathlib.Core.Path.{_≡_, refl, sym, ap, _∙_, subst}
+use mathlib.Core.Path.{sym, _∙_}
 use Prim.Native.Nat.{_≤_, _-_}
 use native.Mathlib.Omega.{arith}
 use borrow.Author.Needs.{needs}
@@ -11,17 +11,12 @@ use Rattle.chart_cells.proofs.carry.Lts as lts
 use Rattle.chart_cells.proofs.bring.Reads as bring-reads
 use Rattle.workspace.proofs.none.Reads as none-reads
 
+-- the rows that reach one of the first q that the span held are added
 abbrev Inv-loop : tie.InvT-loop
 Inv-loop lay work₀ sp rows q₀ work q = (q ≤ rows) × Carrying lay sp rows work₀ work q
 
 abbrev μ-loop : tie.MeasureT-loop
 μ-loop lay work₀ sp rows q₀ work q = rows - q
-
-none-requires : tie.Need-none-requires Inv-loop μ-loop
-none-requires c κs = omega arith
-
-same-length : tie.Need-same-length Inv-loop μ-loop
-same-length c = search needs
 
 returns : tie.Need-returns Inv-loop μ-loop
 returns c =
@@ -33,24 +28,12 @@ loop-holds c =
     let a = c .before .before .before .before .before .args in
     (omega arith, carry-start (a .lay .now) (a .sp) (a .rows) (a .work .now))
 
-bring-requires : tie.Need-bring-requires Inv-loop μ-loop
-bring-requires c κs = (omega arith, omega arith, omega arith, omega arith)
-
-add-q : tie.Need-add-q Inv-loop μ-loop
-add-q c = omega arith
-
-loop-less : tie.Need-loop-less Inv-loop μ-loop
-loop-less c = omega arith
-
 loop-again : tie.Need-loop-again Inv-loop μ-loop
 loop-again c =
     let s = c .before .before .before .before .before .before .before .before .before .before .before in
     let a = s .args in
     let l = c .before .before .before .before .before .loop in
     (omega arith, carry-turn (a .lay .now) (a .sp) (a .rows) (a .work .now) (l .work) _ (l .q) (s .pre .0) (omega arith) (omega arith) (l .inv .1) (c .before .before .bring .ensures))
-
-same-length-2 : tie.Need-same-length-2 Inv-loop μ-loop
-same-length-2 c = search needs
 
 returns-2 : tie.Need-returns-2 Inv-loop μ-loop
 returns-2 c =
@@ -64,13 +47,13 @@ carry-spec =
     (tie.spec
     Inv-loop
     μ-loop
-    none-requires
-    same-length
+    (λ c κs. omega arith)
+    (λ c. search needs)
     returns
     loop-holds
-    bring-requires
-    add-q
-    loop-less
+    (λ c κs. (omega arith, omega arith, omega arith, omega arith))
+    (λ c. omega arith)
+    (λ c. omega arith)
     loop-again
-    same-length-2
+    (λ c. search needs)
     returns-2)

@@ -1,8 +1,7 @@
 -- `chart::splits::pairs` meets its contract. The loop's invariant: the rows of the pairs that were looked at are in.
-use mathlib.Core.Path.{_≡_, refl, sym, ap, _∙_, subst}
+use mathlib.Core.Path.{subst}
 use Prim.Native.Nat.{_≤_, _-_}
 use native.Mathlib.Omega.{arith}
-use lib.ListN.{getD}
 use borrow.Author.Needs.{needs}
 use Rattle.chart_cells.specs.Steps.{Adds, paired}
 use Rattle.chart_cells.proofs.Adding.{adds-none}
@@ -14,40 +13,20 @@ use Rattle.chart_cells.proofs.pairs.Lts as lts
 use Rattle.chart_cells.proofs.both.Reads as both-reads
 use Rattle.chart_cells.proofs.put.Reads as put-reads
 
+-- the rows that the first j pairs split over the two spans are added
 abbrev Inv-loop : tie.InvT-loop
 Inv-loop lay work₀ left right sp n j₀ work j = (j ≤ n) × Adds sp (paired lay work₀ left right j) work₀ work
 
 abbrev μ-loop : tie.MeasureT-loop
 μ-loop lay work₀ left right sp n j₀ work j = n - j
 
-shared-slice-read-n : tie.Need-shared-slice-read-n Inv-loop μ-loop
-shared-slice-read-n c = omega arith
-
 loop-holds : tie.Need-loop-holds Inv-loop μ-loop
 loop-holds c =
     let a = c .before .before .before .args in
     (omega arith, adds-none (a .sp) (paired (a .lay .now) (a .work .now) (a .left) (a .right) 0) (a .work .now) (paired-none (a .lay .now) (a .left) (a .right) (a .work .now)))
 
-add-x : tie.Need-add-x Inv-loop μ-loop
-add-x c = omega arith
-
-mul-x : tie.Need-mul-x Inv-loop μ-loop
-mul-x c = omega arith
-
-shared-slice-read-x : tie.Need-shared-slice-read-x Inv-loop μ-loop
-shared-slice-read-x c = omega arith
-
 both-requires : tie.Need-both-requires Inv-loop μ-loop
 both-requires c κs = (omega arith, omega arith, c .before .before .before .before .before .before .before .pre .0 .small (c .before .before .before .loop .j) (omega arith), omega arith)
-
-put-requires : tie.Need-put-requires Inv-loop μ-loop
-put-requires c κs = (omega arith, omega arith, omega arith)
-
-add-j : tie.Need-add-j Inv-loop μ-loop
-add-j c = omega arith
-
-loop-less : tie.Need-loop-less Inv-loop μ-loop
-loop-less c = omega arith
 
 loop-again : tie.Need-loop-again Inv-loop μ-loop
 loop-again c =
@@ -58,9 +37,6 @@ loop-again c =
       pairs-turn (a .lay .now) (a .left) (a .right) (a .sp) (l .j) (a .work .now) (l .work) _ (s .pre .4) (s .pre .5) (l .inv .1)
           (c .before .before .before .before .both .result) (c .before .before .before .before .both .ensures) (c .before .before .put .ensures),
     )
-
-same-length : tie.Need-same-length Inv-loop μ-loop
-same-length c = search needs
 
 returns : tie.Need-returns Inv-loop μ-loop
 returns c =
@@ -74,15 +50,15 @@ pairs-spec =
     (tie.spec
     Inv-loop
     μ-loop
-    shared-slice-read-n
+    (λ c. omega arith)
     loop-holds
-    add-x
-    mul-x
-    shared-slice-read-x
+    (λ c. omega arith)
+    (λ c. omega arith)
+    (λ c. omega arith)
     both-requires
-    put-requires
-    add-j
-    loop-less
+    (λ c κs. (omega arith, omega arith, omega arith))
+    (λ c. omega arith)
+    (λ c. omega arith)
     loop-again
-    same-length
+    (λ c. search needs)
     returns)

@@ -7,16 +7,10 @@ use Rattle.chart_cells.proofs.put.Reads as reads
 use Rattle.chart_cells.proofs.put.Lts as lts
 use Rattle.workspace.proofs.put.Reads as put-reads
 
-put-requires : tie.Need-put-requires
-put-requires c κs = search needs
-
-same-length : tie.Need-same-length
-same-length c = search needs
-
 returns : tie.Need-returns
 returns c =
     let a = c .before .before .before .before .before .args in
     rw (c .before .before .put .ensures) (adds-put (a .work .now) (a .sp) (omega arith) (a .q) (omega arith) (omega arith) (a .on))
 
 pub put-spec : {M : Type 1} → statement M
-put-spec = tie.close (tie.spec put-requires same-length returns)
+put-spec = tie.close (tie.spec (λ c κs. search needs) (λ c. search needs) returns)

@@ -1,10 +1,8 @@
 -- `chart::splits::splits` meets its contract. The loop's invariant: the splits before k are done, and `left` is the span of k places from i on.
-use mathlib.Core.Path.{_≡_, refl, sym, ap, _∙_, subst}
+use mathlib.Core.Path.{_≡_, sym, _∙_, subst}
 use Prim.Native.Nat.{_≤_, _<_, _+_, _-_}
 use native.Mathlib.Omega.{arith}
-use lib.ListN.{getD}
 use borrow.Author.Needs.{needs}
-use borrow.Author.Tests.{eqb-true}
 use Rattle.workspace.specs.Spans.{spanAt}
 use Rattle.workspace.proofs.Spans.{span-lt}
 use Rattle.chart_cells.specs.Steps.{Adds, parted}
@@ -17,14 +15,12 @@ use Rattle.chart_cells.proofs.splits.Lts as lts
 use Rattle.chart_cells.proofs.split.Reads as split-reads
 use Rattle.workspace.proofs.span.Reads as span-reads
 
+-- the rows of the splits after fewer than k places are added, and `left` is the span of the first k
 abbrev Inv-loop : tie.InvT-loop
 Inv-loop lay work₀ i m sp left₀ k₀ work left k = (0 < k) × (k ≤ m) × (left ≡ spanAt i k) × Adds sp (parted lay work₀ i m (k - 1)) work₀ work
 
 abbrev μ-loop : tie.MeasureT-loop
 μ-loop lay work₀ i m sp left₀ k₀ work left k = m - k
-
-shared-slice-read-if1 : tie.Need-shared-slice-read-if1 Inv-loop μ-loop
-shared-slice-read-if1 c = omega arith
 
 returns : tie.Need-returns Inv-loop μ-loop
 returns c =
@@ -36,9 +32,6 @@ returns-2 c =
     let a = c .before .before .before .before .before .args in
     let z : a .m - 1 ≡ 0 = omega arith in
     rw z (adds-none (a .sp) (parted (a .lay .now) (a .work .now) (a .i) (a .m) 0) (a .work .now) (parted-none (a .lay .now) (a .i) (a .m) (a .work .now)))
-
-span-requires : tie.Need-span-requires Inv-loop μ-loop
-span-requires c κs = omega arith
 
 loop-holds : tie.Need-loop-holds Inv-loop μ-loop
 loop-holds c =
@@ -65,17 +58,8 @@ split-requires c κs =
       omega arith,
     )
 
-add-k : tie.Need-add-k Inv-loop μ-loop
-add-k c = omega arith
-
-add-left : tie.Need-add-left Inv-loop μ-loop
-add-left c = omega arith
-
 add-left-2 : tie.Need-add-left-2 Inv-loop μ-loop
 add-left-2 c = omega (arith, span-lt (c .before .before .before .before .before .before .before .before .before .before .before .before .args .i) (c .before .before .before .before .before .loop .k) (omega arith))
-
-loop-less : tie.Need-loop-less Inv-loop μ-loop
-loop-less c = omega arith
 
 loop-again : tie.Need-loop-again Inv-loop μ-loop
 loop-again c =
@@ -87,9 +71,6 @@ loop-again c =
       omega (arith, left-next (a .i) (l .k)),
       split-turn (a .lay .now) (a .i) (a .m) (a .sp) (l .left) (l .k) (a .work .now) (l .work) _ (s .pre .2) (l .inv .2) (l .inv .0) (omega arith) (l .inv .3) (c .before .before .split .ensures),
     )
-
-same-length : tie.Need-same-length Inv-loop μ-loop
-same-length c = search needs
 
 returns-3 : tie.Need-returns-3 Inv-loop μ-loop
 returns-3 c =
@@ -103,17 +84,17 @@ splits-spec =
     (tie.spec
     Inv-loop
     μ-loop
-    shared-slice-read-if1
+    (λ c. omega arith)
     returns
     returns-2
-    span-requires
+    (λ c κs. omega arith)
     loop-holds
     add-split
     split-requires
-    add-k
-    add-left
+    (λ c. omega arith)
+    (λ c. omega arith)
     add-left-2
-    loop-less
+    (λ c. omega arith)
     loop-again
-    same-length
+    (λ c. search needs)
     returns-3)

@@ -16,17 +16,10 @@ well p = sym (p .before .well-formed .ensures) ∙ not-false (p .before .well-fo
 fit : (p : tie.Else2) → length (p .before .before .before .before .before .before .before .before .args .word .now) ≡ nOf (p .before .before .before .before .before .before .before .before .args .list .now)
 fit p = omega (arith, p .before .trailer-of .ensures .length-is)
 
-well-formed-requires : tie.Need-well-formed-requires
-well-formed-requires c κs = search needs
-
 returns : tie.Need-returns
 unfolding gateSays gateLeaves
 returns c =
     record { said = rw (← c .before .well-formed .ensures, not-true (c .before .well-formed .result) (c .if1 .taken)); left = refl }
-
-trailer-of-requires : tie.Need-trailer-of-requires
-trailer-of-requires c κs =
-    right-trailer _ _ (well c)
 
 returns-2 : tie.Need-returns-2
 unfolding gateSays gateLeaves
@@ -43,11 +36,7 @@ returns-3 c =
     record { said = rw (well (c .before .before .before), eq-eqb _ _ (fit (c .before)), lt-leb _ _ (c .if3 .taken)); left = refl }
 
 read-requires : tie.Need-read-requires
-read-requires c κs =
-    record { formed = well (c .before .before .before .before); fit = fit (c .before .before); room = omega arith }
-
-same-length : tie.Need-same-length
-same-length c = search needs
+read-requires c κs = record { formed = well (c .before .before .before .before); fit = fit (c .before .before); room = omega arith }
 
 returns-4 : tie.Need-returns-4
 unfolding gateSays gateLeaves words
@@ -56,9 +45,6 @@ returns-4 c =
       said = rw (well (c .before .before .before .before .before .before .before .before), eq-eqb _ _ (fit (c .before .before .before .before .before .before)), le-leb _ _ (c .before .before .before .before .before .if3 .left), ← c .before .before .before .read .ensures .0, c .if4 .taken);
       left = c .before .before .before .read .ensures .1;
     }
-
-same-length-2 : tie.Need-same-length-2
-same-length-2 c = search needs
 
 returns-5 : tie.Need-returns-5
 unfolding gateSays gateLeaves words
@@ -72,13 +58,13 @@ pub gate-spec : {M : Type 1} → statement M
 gate-spec =
     tie.close
     (tie.spec
-    well-formed-requires
+    (λ c κs. search needs)
     returns
-    trailer-of-requires
+    (λ c κs. right-trailer _ _ (well c))
     returns-2
     returns-3
     read-requires
-    same-length
+    (λ c. search needs)
     returns-4
-    same-length-2
+    (λ c. search needs)
     returns-5)

@@ -1,52 +1,31 @@
 use Prim.Native.Nat.{ℕ, _+_, _-_, _≤_}
 use mathlib.Core.Path.{_≡_, sym, ap, _∙_}
 use mathlib.Core.Bool.{false}
-use native.Mathlib.Omega.{arith}
-use borrow.Author.Needs.{needs}
 use Rattle.paper.specs.Tests.{anyBelow}
 use Rattle.paper.specs.Sheet.{sheetOf}
 use Rattle.paper.proofs.Tests.{any-none, any-intro}
 use Rattle.sheet.proofs.Contents.{none-more}
 use Rattle.groundwork.specs.Laying.{letterFrom}
 use Rattle.groundwork.proofs.ByKind.{letters-of}
+use native.Mathlib.Omega.{arith}
 use Rattle.groundwork.proofs.letter_in.Statement.{statement}
 use Rattle.groundwork.proofs.letter_in.Tie as tie
 
+-- none of the first k bytes is a letter
 abbrev Inv-loop : tie.InvT-loop
 Inv-loop s low high n k₀ k = (k ≤ n) × (anyBelow k (letterFrom (sheetOf s) low) ≡ false)
 
 abbrev μ-loop : tie.MeasureT-loop
 μ-loop s low high n k₀ k = n - k
 
-add-n : tie.Need-add-n Inv-loop μ-loop
-add-n c = omega arith
-
-sub-n : tie.Need-sub-n Inv-loop μ-loop
-sub-n c = omega arith
-
 loop-holds : tie.Need-loop-holds Inv-loop μ-loop
 loop-holds c = (omega arith, any-none _)
-
-add-is-letter : tie.Need-add-is-letter Inv-loop μ-loop
-add-is-letter c = omega arith
-
-cast-is-letter : tie.Need-cast-is-letter Inv-loop μ-loop
-cast-is-letter c = omega arith
-
-is-letter-requires : tie.Need-is-letter-requires Inv-loop μ-loop
-is-letter-requires c κs = search needs
 
 returns : tie.Need-returns Inv-loop μ-loop
 returns c =
     let a = c .before .before .before .before .before .args in
     let k = c .before .before .before .loop .k in
     sym (sym (letters-of (sheetOf (a .s .now)) (a .low) (a .high)) ∙ any-intro _ (letterFrom (sheetOf (a .s .now)) (a .low)) k (omega arith) (sym (c .before .is-letter .ensures) ∙ c .if1 .taken))
-
-add-k : tie.Need-add-k Inv-loop μ-loop
-add-k c = omega arith
-
-loop-less : tie.Need-loop-less Inv-loop μ-loop
-loop-less c = omega arith
 
 loop-again : tie.Need-loop-again Inv-loop μ-loop
 loop-again c = (omega arith, none-more _ (c .before .before .before .loop .k) (c .before .before .before .loop .inv .1) (sym (c .before .is-letter .ensures) ∙ c .if1 .left))
@@ -63,14 +42,14 @@ letter-in-spec =
     (tie.spec
     Inv-loop
     μ-loop
-    add-n
-    sub-n
+    (λ c. omega arith)
+    (λ c. omega arith)
     loop-holds
-    add-is-letter
-    cast-is-letter
-    is-letter-requires
+    (λ c. omega arith)
+    (λ c. omega arith)
+    (λ c κs. c .before .before .before .pre .0)
     returns
-    add-k
-    loop-less
+    (λ c. omega arith)
+    (λ c. omega arith)
     loop-again
     returns-2)

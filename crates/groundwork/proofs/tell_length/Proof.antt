@@ -1,19 +1,30 @@
+use mathlib.Core.Path.{refl}
 use Rattle.groundwork.proofs.ByKind.{told-other, told-long, told-text}
 use borrow.Author.Needs.{needs}
 use Rattle.groundwork.proofs.tell_length.Statement.{statement}
 use Rattle.groundwork.proofs.tell_length.Tie as tie
 
 returns : tie.Need-returns
-returns c = told-other _ _ _ _ (c .before .before .pre .0) (c .before .before .pre .1) (c .if1 .taken)
+returns c = rw (c .before .before .r .given .1) (told-long _ _ _ (c .if1 .taken))
 
 returns-2 : tie.Need-returns-2
-returns-2 c = told-long _ _ _ _ (c .before .if1 .left) (c .if2 .taken)
-
-shl-result : tie.Need-shl-result
-shl-result c = search needs
-
-returns-3 : tie.Need-returns-3
-returns-3 c = told-text _ _ _ _ (c .before .if1 .left) (c .if2 .left)
+returns-2 c = rw (c .before .before .r .given .1) (told-text _ _ _ (c .if1 .left))
 
 pub tell-length-spec : {M : Type 1} → statement M
-tell-length-spec = tie.close (tie.spec returns returns-2 shl-result returns-3)
+tell-length-spec =
+    tie.close
+    (tie.spec
+    (λ c. search needs)
+    returns
+    (λ c. search needs)
+    (λ c. search needs)
+    (λ c. search needs)
+    (λ c. search needs)
+    (λ c. search needs)
+    (λ c. search needs)
+    returns-2
+    (λ c. rw (c .enum-told .given .1) (told-other _ _ refl))
+    (λ c. rw (c .enum-told2 .given .1) (told-other _ _ refl))
+    (λ c. rw (c .enum-told3 .given .1) (told-other _ _ refl))
+    (λ c. rw (c .enum-told4 .given .1) (told-other _ _ refl))
+    (λ c. rw (c .enum-told5 .given .1) (told-other _ _ refl)))

@@ -7,30 +7,12 @@ use borrow.Author.Needs.{needs}
 use Rattle.list.proofs.entry.Statement.{statement}
 use Rattle.list.proofs.entry.Tie as tie
 
-add-if1 : tie.Need-add-if1
-add-if1 c = search needs
-
 returns : tie.Need-returns
 unfolding headOk
 returns c =
     let a = c .before .before .before .args in
     let h : trailerOf (a .list .now) < headEnd (a .list .now) (a .o) = omega arith in
     rw (entry-is _ _ _ _ _ (c .before .before .before .pre .1), lt-leb _ _ h)
-
-add-u32-at : tie.Need-add-u32-at
-add-u32-at c = search needs
-
-u32-at-requires : tie.Need-u32-at-requires
-u32-at-requires c κs = search needs
-
-add-end : tie.Need-add-end
-add-end c = search needs
-
-mul-end : tie.Need-mul-end
-mul-end c = search needs
-
-add-end-2 : tie.Need-add-end-2
-add-end-2 c = search needs
 
 returns-2 : tie.Need-returns-2
 unfolding headOk
@@ -39,24 +21,12 @@ returns-2 c =
     let h : trailerOf (a .list .now) < headEnd (a .list .now) (a .o) = omega (arith, c .before .before .u32-at .ensures .0) in
     rw (entry-is _ _ _ _ _ (c .before .before .before .before .before .before .pre .1), lt-leb _ _ h)
 
-u16-at-requires : tie.Need-u16-at-requires
-u16-at-requires c κs = search needs
-
 returns-3 : tie.Need-returns-3
 unfolding headOk
 returns-3 c =
     let a = c .before .before .before .before .before .before .before .before .args in
     let h : headEnd (a .list .now) (a .o) ≤ trailerOf (a .list .now) = omega (arith, c .before .before .before .before .u32-at .ensures .0) in
     rw (entry-is _ _ _ _ _ (c .before .before .before .before .before .before .before .before .pre .1), le-leb _ _ h, ← c .before .u16-at .ensures .0, ne-eqb _ _ (c .if3 .taken))
-
-add-wide : tie.Need-add-wide
-add-wide c = search needs
-
-shared-slice-read-wide : tie.Need-shared-slice-read-wide
-shared-slice-read-wide c = search needs
-
-wide-requires : tie.Need-wide-requires
-wide-requires c κs = search needs
 
 returns-4 : tie.Need-returns-4
 unfolding headOk
@@ -65,24 +35,12 @@ returns-4 c =
     let h : headEnd (a .list .now) (a .o) ≤ trailerOf (a .list .now) = omega (arith, c .before .before .before .before .before .before .before .u32-at .ensures .0) in
     rw (entry-is _ _ _ _ _ (c .before .before .before .before .before .before .before .before .before .before .before .pre .1), le-leb _ _ h, ← c .before .before .before .before .u16-at .ensures .0, eq-eqb _ _ (c .before .before .before .if3 .left), ← c .before .wide .ensures .0, ne-eqb _ _ (c .if4 .taken))
 
-add-if5 : tie.Need-add-if5
-add-if5 c = search needs
-
-shared-slice-read-if5 : tie.Need-shared-slice-read-if5
-shared-slice-read-if5 c = search needs
-
 returns-5 : tie.Need-returns-5
 unfolding headOk
 returns-5 c =
     let a = c .before .before .before .before .before .before .before .before .before .before .before .before .before .args in
     let h : headEnd (a .list .now) (a .o) ≤ trailerOf (a .list .now) = omega (arith, c .before .before .before .before .before .before .before .before .before .u32-at .ensures .0) in
     rw (entry-is _ _ _ _ _ (c .before .before .before .before .before .before .before .before .before .before .before .before .before .pre .1), le-leb _ _ h, ← c .before .before .before .before .before .before .u16-at .ensures .0, eq-eqb _ _ (c .before .before .before .before .before .if3 .left), ← c .before .before .before .wide .ensures .0, eq-eqb _ _ (c .before .before .if4 .left), ne-eqb _ _ (c .if5 .taken))
-
-add-options-ok : tie.Need-add-options-ok
-add-options-ok c = search needs
-
-options-ok-requires : tie.Need-options-ok-requires
-options-ok-requires c κs = search needs
 
 returns-6 : tie.Need-returns-6
 unfolding headOk
@@ -102,24 +60,24 @@ pub entry-spec : {M : Type 1} → statement M
 entry-spec =
     tie.close
     (tie.spec
-    add-if1
+    (λ c. search needs)
     returns
-    add-u32-at
-    u32-at-requires
-    add-end
-    mul-end
-    add-end-2
+    (λ c. search needs)
+    (λ c κs. search needs)
+    (λ c. search needs)
+    (λ c. search needs)
+    (λ c. search needs)
     returns-2
-    u16-at-requires
+    (λ c κs. search needs)
     returns-3
-    add-wide
-    shared-slice-read-wide
-    wide-requires
+    (λ c. search needs)
+    (λ c. search needs)
+    (λ c κs. search needs)
     returns-4
-    add-if5
-    shared-slice-read-if5
+    (λ c. search needs)
+    (λ c. search needs)
     returns-5
-    add-options-ok
-    options-ok-requires
+    (λ c. search needs)
+    (λ c κs. search needs)
     returns-6
     returns-7)

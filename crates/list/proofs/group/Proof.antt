@@ -11,6 +11,7 @@ use Rattle.paper.specs.Tests.{allBelow}
 use Rattle.list.proofs.group.Statement.{statement}
 use Rattle.list.proofs.group.Tie as tie
 
+-- the heads of the first r rows obey, and o is where the next one begins
 abbrev Inv-loop : tie.InvT-loop
 Inv-loop list t text m at rows o₀ r₀ o r =
     (r ≤ rows) × (o ≡ headAt list m r) × (o ≤ t .base) × (allBelow r (entryOk list text m) ≡ true)
@@ -20,24 +21,7 @@ abbrev μ-loop : tie.MeasureT-loop
     rows - r
 
 loop-holds : tie.Need-loop-holds Inv-loop μ-loop
-loop-holds c =
-    (omega arith, c .before .pre .1 ∙ head-first _ _, omega arith, all-none _)
-
-entry-requires : tie.Need-entry-requires Inv-loop μ-loop
-entry-requires c κs =
-    (c .before .before .before .pre .0, c .before .loop .inv .1, omega arith)
-
-enum-known-e : tie.Need-enum-known-e Inv-loop μ-loop
-enum-known-e c =
-    search needs
-
-add-r : tie.Need-add-r Inv-loop μ-loop
-add-r c =
-    omega arith
-
-loop-less : tie.Need-loop-less Inv-loop μ-loop
-loop-less c =
-    omega arith
+loop-holds c = (omega arith, c .before .pre .1 ∙ head-first _ _, omega arith, all-none _)
 
 loop-again : tie.Need-loop-again Inv-loop μ-loop
 loop-again c =
@@ -45,10 +29,6 @@ loop-again c =
     let p = past-end (entryOk (a .list .now) (a .text) (a .m) (c .before .before .before .before .before .loop .r)) _ _ (sym (c .before .before .before .entry .ensures) ∙ c .before .e .given .1) in
     let b = entry-before _ _ _ _ _ (c .before .before .before .before .before .loop .inv .1) (p .0) in
     (omega arith, sym (p .1) ∙ ap (λ x. headEnd (a .list .now) x) (c .before .before .before .before .before .loop .inv .1) ∙ sym (head-next _ _ _), omega arith, all-more _ _ (c .before .before .before .before .before .loop .inv .3) (p .0))
-
-enum-told : tie.Need-enum-told Inv-loop μ-loop
-enum-told c =
-    search needs
 
 returns : tie.Need-returns Inv-loop μ-loop
 returns c =
@@ -71,11 +51,11 @@ group-spec =
     Inv-loop
     μ-loop
     loop-holds
-    entry-requires
-    enum-known-e
-    add-r
-    loop-less
+    (λ c κs. (c .before .before .before .pre .0, c .before .loop .inv .1, omega arith))
+    (λ c. search needs)
+    (λ c. omega arith)
+    (λ c. omega arith)
     loop-again
-    enum-told
+    (λ c. search needs)
     returns
     returns-2)

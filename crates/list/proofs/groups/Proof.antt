@@ -11,6 +11,7 @@ use Rattle.paper.specs.Tests.{allBelow}
 use Rattle.list.proofs.groups.Statement.{statement}
 use Rattle.list.proofs.groups.Tie as tie
 
+-- the first m groups obey and meet, and `at` is where the next one begins
 abbrev Inv-loop : tie.InvT-loop
 Inv-loop list t text n base at₀ m₀ at m =
     (m ≤ n + 1) × (at ≡ groupBegin list m) × (at ≤ base) × (allBelow m (groupOk list text) ≡ true)
@@ -20,20 +21,7 @@ abbrev μ-loop : tie.MeasureT-loop
     n + 1 - m
 
 loop-holds : tie.Need-loop-holds Inv-loop μ-loop
-loop-holds c =
-    (omega arith, group-none _, omega arith, all-none _)
-
-mul-u32-at : tie.Need-mul-u32-at Inv-loop μ-loop
-mul-u32-at c =
-    omega arith
-
-add-u32-at : tie.Need-add-u32-at Inv-loop μ-loop
-add-u32-at c =
-    omega arith
-
-u32-at-requires : tie.Need-u32-at-requires Inv-loop μ-loop
-u32-at-requires c κs =
-    omega arith
+loop-holds c = (omega arith, group-none _, omega arith, all-none _)
 
 returns : tie.Need-returns Inv-loop μ-loop
 returns c =
@@ -46,18 +34,6 @@ group-requires : tie.Need-group-requires Inv-loop μ-loop
 group-requires c κs =
     (c .before .before .before .before .before .pre, sym (c .if1 .left) ∙ c .before .u32-at .ensures .0 ∙ group-read _ _ _ (c .before .before .before .before .before .pre .base-is), omega arith)
 
-enum-known-e : tie.Need-enum-known-e Inv-loop μ-loop
-enum-known-e c =
-    search needs
-
-add-m : tie.Need-add-m Inv-loop μ-loop
-add-m c =
-    omega arith
-
-loop-less : tie.Need-loop-less Inv-loop μ-loop
-loop-less c =
-    omega arith
-
 -- the stored offset of the group in hand is where it begins
 met : (c : tie.Else1 Inv-loop μ-loop) → groupAt (c .before .before .before .before .before .args .list .now) (c .before .before .before .loop .m) ≡ groupBegin (c .before .before .before .before .before .args .list .now) (c .before .before .before .loop .m)
 met c = sym (group-read _ _ _ (c .before .before .before .before .before .pre .base-is)) ∙ sym (c .before .u32-at .ensures .0) ∙ c .if1 .left ∙ c .before .before .before .loop .inv .1
@@ -69,10 +45,6 @@ loop-again c =
     let some : 1 ≤ rowsOf l = omega arith in
     let b = group-before l _ _ _ some (p .0) in
     (omega arith, sym (p .1) ∙ sym (group-next l _), omega arith, all-more _ _ (c .before .before .before .before .before .before .before .loop .inv .3) (group-is l _ _ (met (c .before .before .before .before)) ∙ p .0))
-
-enum-told : tie.Need-enum-told Inv-loop μ-loop
-enum-told c =
-    search needs
 
 returns-2 : tie.Need-returns-2 Inv-loop μ-loop
 returns-2 c =
@@ -95,15 +67,15 @@ groups-spec =
     Inv-loop
     μ-loop
     loop-holds
-    mul-u32-at
-    add-u32-at
-    u32-at-requires
+    (λ c. omega arith)
+    (λ c. omega arith)
+    (λ c κs. omega arith)
     returns
     group-requires
-    enum-known-e
-    add-m
-    loop-less
+    (λ c. search needs)
+    (λ c. omega arith)
+    (λ c. omega arith)
     loop-again
-    enum-told
+    (λ c. search needs)
     returns-2
     returns-3)

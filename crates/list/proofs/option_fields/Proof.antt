@@ -6,18 +6,6 @@ use borrow.Author.Needs.{needs}
 use Rattle.list.proofs.option_fields.Statement.{statement}
 use Rattle.list.proofs.option_fields.Tie as tie
 
-byte-ok-requires : tie.Need-byte-ok-requires
-byte-ok-requires c κs = search needs
-
-stretch-ok-requires : tie.Need-stretch-ok-requires
-stretch-ok-requires c κs = search needs
-
-split-ok-requires : tie.Need-split-ok-requires
-split-ok-requires c κs = search needs
-
-nil-ok-requires : tie.Need-nil-ok-requires
-nil-ok-requires c κs = search needs
-
 returns : tie.Need-returns
 unfolding optionFields
 returns c =
@@ -52,10 +40,10 @@ pub option-fields-spec : {M : Type 1} → statement M
 option-fields-spec =
     tie.close
     (tie.spec
-    byte-ok-requires
-    stretch-ok-requires
-    split-ok-requires
-    nil-ok-requires
+    (λ c κs. search needs)
+    (λ c κs. search needs)
+    (λ c κs. search needs)
+    (λ c κs. search needs)
     returns
     returns-2
     returns-3

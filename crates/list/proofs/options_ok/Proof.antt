@@ -9,6 +9,7 @@ use Rattle.paper.specs.Tests.{allBelow}
 use Rattle.list.proofs.options_ok.Statement.{statement}
 use Rattle.list.proofs.options_ok.Tie as tie
 
+-- the first j options obey
 abbrev Inv-loop : tie.InvT-loop
 Inv-loop list t text m o count j₀ j =
     (j ≤ count) × (allBelow j (optionFrom list text m o) ≡ true)
@@ -18,36 +19,13 @@ abbrev μ-loop : tie.MeasureT-loop
     count - j
 
 loop-holds : tie.Need-loop-holds Inv-loop μ-loop
-loop-holds c =
-    (omega arith, all-none _)
-
-mul-option-ok : tie.Need-mul-option-ok Inv-loop μ-loop
-mul-option-ok c =
-    omega arith
-
-add-option-ok : tie.Need-add-option-ok Inv-loop μ-loop
-add-option-ok c =
-    omega arith
-
-option-ok-requires : tie.Need-option-ok-requires Inv-loop μ-loop
-option-ok-requires c κs =
-    (c .before .before .before .pre .0, omega arith)
-
-add-j : tie.Need-add-j Inv-loop μ-loop
-add-j c =
-    omega arith
-
-loop-less : tie.Need-loop-less Inv-loop μ-loop
-loop-less c =
-    omega arith
+loop-holds c = (omega arith, all-none _)
 
 loop-again : tie.Need-loop-again Inv-loop μ-loop
-loop-again c =
-    (omega arith, all-more _ _ (c .before .before .before .loop .inv .1) (sym (c .before .option-ok .ensures) ∙ c .if1 .taken))
+loop-again c = (omega arith, all-more _ _ (c .before .before .before .loop .inv .1) (sym (c .before .option-ok .ensures) ∙ c .if1 .taken))
 
 returns : tie.Need-returns Inv-loop μ-loop
-returns c =
-    sym (all-stop _ _ (c .before .before .before .loop .j) (omega arith) (sym (c .before .option-ok .ensures) ∙ c .if1 .left))
+returns c = sym (all-stop _ _ (c .before .before .before .loop .j) (omega arith) (sym (c .before .option-ok .ensures) ∙ c .if1 .left))
 
 returns-2 : tie.Need-returns-2 Inv-loop μ-loop
 returns-2 c =
@@ -61,11 +39,11 @@ options-ok-spec =
     Inv-loop
     μ-loop
     loop-holds
-    mul-option-ok
-    add-option-ok
-    option-ok-requires
-    add-j
-    loop-less
+    (λ c. omega arith)
+    (λ c. omega arith)
+    (λ c κs. (c .before .before .before .pre .0, omega arith))
+    (λ c. omega arith)
+    (λ c. omega arith)
     loop-again
     returns
     returns-2)

@@ -4,8 +4,7 @@ use Rattle.list.proofs.split_ok.Statement.{statement}
 use Rattle.list.proofs.split_ok.Tie as tie
 
 returns : tie.Need-returns
-returns c =
-    rw (le-ltb _ _ (c .if1 .taken))
+returns c = rw (le-ltb _ _ (c .if1 .taken))
 
 returns-2 : tie.Need-returns-2
 returns-2 c =

@@ -10,20 +10,13 @@ unfolding wellFormed
 returns c =
     rw (lt-leb _ _ (c .if1 .taken))
 
-trailer-ok-requires : tie.Need-trailer-ok-requires
-trailer-ok-requires c κs = search needs
-
 returns-2 : tie.Need-returns-2
 unfolding wellFormed
 returns-2 c =
     rw (le-leb _ _ (c .before .before .if1 .left), ← c .before .trailer-ok .ensures, not-true (c .before .trailer-ok .result) (c .if2 .taken))
 
 trailer-of-requires : tie.Need-trailer-of-requires
-trailer-of-requires c κs =
-    (search needs, sym (c .before .trailer-ok .ensures) ∙ not-false (c .before .trailer-ok .result) (c .if2 .left))
-
-groups-requires : tie.Need-groups-requires
-groups-requires c κs = search needs
+trailer-of-requires c κs = (search needs, sym (c .before .trailer-ok .ensures) ∙ not-false (c .before .trailer-ok .result) (c .if2 .left))
 
 returns-3 : tie.Need-returns-3
 unfolding wellFormed
@@ -33,4 +26,4 @@ returns-3 c =
 pub well-formed-spec : {M : Type 1} → statement M
 well-formed-spec =
     tie.close
-    (tie.spec returns trailer-ok-requires returns-2 trailer-of-requires groups-requires returns-3)
+    (tie.spec returns (λ c κs. search needs) returns-2 trailer-of-requires (λ c κs. search needs) returns-3)

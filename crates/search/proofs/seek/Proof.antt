@@ -1,4 +1,4 @@
-use Prim.Native.Nat.{_-_}
+use Prim.Native.Nat.{_-_, _≤_}
 use mathlib.Core.Path.{_≡_, sym, _∙_}
 use native.Mathlib.Omega.{arith}
 use borrow.Author.Needs.{needs}
@@ -9,7 +9,7 @@ use Rattle.sheet.proofs.Good.{good}
 use Rattle.workspace.specs.Within.{Within}
 use Rattle.chart.proofs.Filling.{within-none, within-then}
 use Rattle.walk_state.specs.Letters.{hasLetter}
-use Rattle.walk.proofs.Seek.{Seeking, seek-start, seek-marks, seek-found, seek-spent, seek-over, seek-none, seek-next, seek-length}
+use Rattle.walk.proofs.Seek.{Seeking, seek-start, seek-found, seek-spent, seek-over, seek-none, seek-next, seek-length}
 use Rattle.search.proofs.Tellings.{tells-found, tells-none, tells-spent}
 use Rattle.search.proofs.seek.Statement.{statement}
 use Rattle.search.proofs.seek.Tie as tie
@@ -32,15 +32,17 @@ start-requires : tie.Need-start-requires Inv-loop μ-loop
 start-requires c κs = tt
 
 loop-holds : tie.Need-loop-holds Inv-loop μ-loop
-loop-holds c = (seek-start _ _ _ _ _ _ (c .start .result) _ (c .start .ensures) (c .before .before .before .before .pre .2) (omega (arith, good _ (c .before .before .before .before .pre .0) .short, c .before .before .before .before .pre .3)) (search needs), search needs, within-none _)
+loop-holds c = (seek-start _ _ _ _ _ _ (c .start .result) _ (c .start .ensures) (c .before .before .before .before .pre .1) (omega (arith, good _ (c .before .before .before .before .pre .0) .short, c .before .before .before .before .pre .2)) (search needs), search needs, within-none _)
 
 slice-aggregate-judged : tie.Need-slice-aggregate-judged Inv-loop μ-loop
-slice-aggregate-judged c = sym (c .before .before .before .before .before .loop .inv .0 .letters)
+slice-aggregate-judged c = sym (c .before .before .before .before .before .loop .inv .0 .frame .letters)
 
 judged-requires : tie.Need-judged-requires Inv-loop μ-loop
 judged-requires c κs =
     let i = c .before .before .before .before .before .before .loop .inv .0 in
-    (c .before .before .before .before .before .before .before .before .before .before .before .pre .0, c .before .before .before .before .before .before .before .before .before .before .before .pre .1, i .within, omega (arith, i .letters, i .within, i .range, i .top), omega (arith, i .range, c .before .before .before .before .before .before .before .before .before .before .before .pre .3), omega (arith, c .before .before .before .before .before .before .loop .inv .2 .long, c .before .before .before .before .before .before .before .before .before .before .before .pre .6))
+    let start = c .before .before .before .before .before .before .before .before .before .before .before in
+    let room : 7564 ≤ length (c .before .before .before .before .before .before .loop .work) = omega (arith, c .before .before .before .before .before .before .loop .inv .2 .long, start .pre .0 .room) in
+    (record { good = start .pre .0 .good; ground = start .pre .0 .ground; room = room }, i .within, omega (arith, i .frame .letters, i .within, i .range, i .top), omega (arith, i .range, start .pre .2))
 
 is-word-requires : tie.Need-is-word-requires Inv-loop μ-loop
 is-word-requires c κs = tt
@@ -56,7 +58,7 @@ returns c =
     let i = c .before .before .before .before .before .before .before .before .before .before .before .before .loop .inv .0 in
     let w = c .before .before .is-word .ensures in
     let y = c .before .if2 .taken in (
-      tells-found _ _ (c .before .before .before .before .before .before .before .before .before .before .before .before .loop .q .prefix) _ (omega (arith, i .within, i .range)) (omega (arith, i .within, i .range, i .top)) (i .letters)
+      tells-found _ _ (c .before .before .before .before .before .before .before .before .before .before .before .before .loop .q .prefix) _ (omega (arith, i .within, i .range)) (i .frame .letters)
           (seek-found _ _ _ _ _ _ _ _ _ i (c .before .before .before .before .before .before .before .before .before .before .if1 .taken) (w .full y) (sym (c .before .before .before .before .before .judged .ensures .0) ∙ w .opened y)),
       within-then _ _ _ (c .before .before .before .before .before .before .before .before .before .before .before .before .loop .inv .2) (c .before .before .before .before .before .judged .ensures .1),
     )
@@ -68,7 +70,7 @@ advance-requires : tie.Need-advance-requires Inv-loop μ-loop
 advance-requires c κs =
     let w = c .before .before .is-word .ensures in
     let i = c .before .before .before .before .before .before .before .before .before .before .before .before .loop .inv .0 in
-    (omega (arith, i .range, i .top), i .within, (λ o. omega (arith, i .within, w .short (c .before .if2 .left) o)), c .before .before .before .before .before .before .before .before .before .before .if1 .taken, i .fine, seek-marks _ _ _ _ _ _ _ _ _ i, c .before .before .before .before .before .before .before .before .before .before .before .before .before .before .before .before .before .pre .5, omega (arith, c .before .before .before .before .before .before .before .before .before .before .before .before .loop .inv .1))
+    (omega (arith, i .range, i .top), i .within, (λ o. omega (arith, i .within, w .short (c .before .if2 .left) o)), c .before .before .before .before .before .before .before .before .before .before .if1 .taken, i .fine, i .frame .marks, c .before .before .before .before .before .before .before .before .before .before .before .before .before .before .before .before .before .pre .4, omega (arith, c .before .before .before .before .before .before .before .before .before .before .before .before .loop .inv .1))
 
 wordless-requires : tie.Need-wordless-requires Inv-loop μ-loop
 wordless-requires c κs = tt
@@ -79,7 +81,7 @@ same-length-2 c = (within-then _ _ _ (c .before .before .before .before .before 
 returns-2 : tie.Need-returns-2 Inv-loop μ-loop
 returns-2 c = (
   tells-spent _ _ (c .wordless .result) _ (search needs) (c .wordless .ensures)
-      (seek-over _ _ _ _ _ _ _ _ _ (c .before .before .before .before .before .before .before .before .before .before .before .before .before .before .before .before .loop .inv .0) (c .before .before .before .before .before .before .before .before .before .before .before .before .before .before .before .before .before .before .before .before .before .pre .4) _ (c .before .before .before .advance .result) _ (c .before .before .before .advance .ensures) (sym (c .before .before .before .before .before .before .before .before .before .judged .ensures .0)) (c .before .if3 .taken)),
+      (seek-over _ _ _ _ _ _ _ _ _ (c .before .before .before .before .before .before .before .before .before .before .before .before .before .before .before .before .loop .inv .0) (c .before .before .before .before .before .before .before .before .before .before .before .before .before .before .before .before .before .before .before .before .before .pre .3) _ (c .before .before .before .advance .result) _ (c .before .before .before .advance .ensures) (sym (c .before .before .before .before .before .before .before .before .before .judged .ensures .0)) (c .before .if3 .taken)),
   within-then _ _ _ (c .before .before .before .before .before .before .before .before .before .before .before .before .before .before .before .before .loop .inv .2) (c .before .before .before .before .before .before .before .before .before .judged .ensures .1),
 )
 
@@ -92,7 +94,7 @@ same-length-3 c = (within-then _ _ _ (c .before .before .before .before .before 
 returns-3 : tie.Need-returns-3 Inv-loop μ-loop
 returns-3 c = (
   tells-none _ _ (c .wordless2 .result) _ (search needs) (c .wordless2 .ensures)
-      (seek-none _ _ _ _ _ _ _ _ _ (c .before .before .before .before .before .before .before .before .before .before .before .before .before .before .before .before .before .before .before .loop .inv .0) (c .before .before .before .before .before .before .before .before .before .before .before .before .before .before .before .before .before .before .before .before .before .before .before .before .pre .4) _ (c .before .before .before .before .before .before .advance .result) _ (c .before .before .before .before .before .before .advance .ensures) (sym (c .before .before .before .before .before .before .before .before .before .before .before .before .judged .ensures .0)) (c .before .before .before .before .if3 .left) (c .before .before .if4 .taken) (c .before .if5 .taken)),
+      (seek-none _ _ _ _ _ _ _ _ _ (c .before .before .before .before .before .before .before .before .before .before .before .before .before .before .before .before .before .before .before .loop .inv .0) (c .before .before .before .before .before .before .before .before .before .before .before .before .before .before .before .before .before .before .before .before .before .before .before .before .pre .3) _ (c .before .before .before .before .before .before .advance .result) _ (c .before .before .before .before .before .before .advance .ensures) (sym (c .before .before .before .before .before .before .before .before .before .before .before .before .judged .ensures .0)) (c .before .before .before .before .if3 .left) (c .before .before .if4 .taken) (c .before .if5 .taken)),
   within-then _ _ _ (c .before .before .before .before .before .before .before .before .before .before .before .before .before .before .before .before .before .before .before .loop .inv .2) (c .before .before .before .before .before .before .before .before .before .before .before .before .judged .ensures .1),
 )
 
@@ -107,7 +109,7 @@ loop-less c = rw (c .again .ensures) (omega (arith, c .before .before .before .b
 
 loop-again : tie.Need-loop-again Inv-loop μ-loop
 loop-again c = (
-  rw (c .again .ensures) (seek-length _ _ _ _ _ _ _ _ _ (c .before .before .before .before .before .before .before .before .before .before .before .before .before .before .before .before .before .before .before .loop .inv .0) (c .before .before .before .before .before .before .before .before .before .before .before .before .before .before .before .before .before .before .before .before .before .before .before .before .pre .4) _ (c .before .before .before .before .before .before .advance .result) _ (c .before .before .before .before .before .before .advance .ensures) (sym (c .before .before .before .before .before .before .before .before .before .before .before .before .judged .ensures .0)) (c .before .before .before .before .if3 .left) (c .before .before .if4 .taken) (c .before .if5 .left)),
+  rw (c .again .ensures) (seek-length _ _ _ _ _ _ _ _ _ (c .before .before .before .before .before .before .before .before .before .before .before .before .before .before .before .before .before .before .before .loop .inv .0) (c .before .before .before .before .before .before .before .before .before .before .before .before .before .before .before .before .before .before .before .before .before .before .before .before .pre .3) _ (c .before .before .before .before .before .before .advance .result) _ (c .before .before .before .before .before .before .advance .ensures) (sym (c .before .before .before .before .before .before .before .before .before .before .before .before .judged .ensures .0)) (c .before .before .before .before .if3 .left) (c .before .before .if4 .taken) (c .before .if5 .left)),
   c .before .before .before .before .before .before .advance .ensures .tallies ∙ c .before .before .before .before .before .before .before .before .before .before .before .before .before .before .before .before .before .before .before .loop .inv .1,
   within-then _ _ _ (c .before .before .before .before .before .before .before .before .before .before .before .before .before .before .before .before .before .before .before .loop .inv .2) (c .before .before .before .before .before .before .before .before .before .before .before .before .judged .ensures .1),
 )
@@ -117,7 +119,7 @@ loop-less-2 c = omega (arith, c .before .before .before .before .advance .ensure
 
 loop-again-2 : tie.Need-loop-again-2 Inv-loop μ-loop
 loop-again-2 c = (
-  seek-next _ _ _ _ _ _ _ _ _ (c .before .before .before .before .before .before .before .before .before .before .before .before .before .before .before .before .before .loop .inv .0) (c .before .before .before .before .before .before .before .before .before .before .before .before .before .before .before .before .before .before .before .before .before .before .pre .4) _ (c .before .before .before .before .advance .result) _ (c .before .before .before .before .advance .ensures) (sym (c .before .before .before .before .before .before .before .before .before .before .judged .ensures .0)) (c .before .before .if3 .left) (c .if4 .left),
+  seek-next _ _ _ _ _ _ _ _ _ (c .before .before .before .before .before .before .before .before .before .before .before .before .before .before .before .before .before .loop .inv .0) (c .before .before .before .before .before .before .before .before .before .before .before .before .before .before .before .before .before .before .before .before .before .before .pre .3) _ (c .before .before .before .before .advance .result) _ (c .before .before .before .before .advance .ensures) (sym (c .before .before .before .before .before .before .before .before .before .before .judged .ensures .0)) (c .before .before .if3 .left) (c .if4 .left),
   c .before .before .before .before .advance .ensures .tallies ∙ c .before .before .before .before .before .before .before .before .before .before .before .before .before .before .before .before .before .loop .inv .1,
   within-then _ _ _ (c .before .before .before .before .before .before .before .before .before .before .before .before .before .before .before .before .before .loop .inv .2) (c .before .before .before .before .before .before .before .before .before .before .judged .ensures .1),
 )

@@ -2,6 +2,7 @@
 use mathlib.Core.Path.{_≡_}
 use native.Mathlib.Omega.{arith}
 use lib.ListN.{length}
+use Rattle.walk.proofs.Frames.{frame-start}
 use Rattle.walk.proofs.Advances.{adv-down, adv-stuck, adv-shut}
 use borrow.Author.Needs.{needs}
 use Rattle.walk.proofs.advance.Statement.{statement}
@@ -13,19 +14,10 @@ long c = search needs
 marked : (c : tie.Start) → length (c .args .q .begun) ≡ 61
 marked c = search needs
 
-counted-requires : tie.Need-counted-requires
-counted-requires c κs = search needs
-
-first-from-requires : tie.Need-first-from-requires
-first-from-requires c κs = search needs
-
 fresh-requires : tie.Need-fresh-requires
 fresh-requires c κs =
     let h = c .before .before .before .before .before .before .pre .2 (c .before .before .before .if1 .taken) in
     rw (c .before .before .before .before .counted .ensures) (omega arith)
-
-cast-down : tie.Need-cast-down
-cast-down c = search needs
 
 down-requires : tie.Need-down-requires
 down-requires c κs =
@@ -42,18 +34,12 @@ climb-requires-2 c κs =
     let a = c .before .before .before .before in
     rw (c .before .before .counted .ensures) (omega arith, omega arith, a .pre .4, (λ j l. omega (arith, a .pre .5 j l)), a .pre .6, a .pre .7)
 
-same-length : tie.Need-same-length
-same-length c = search needs
-
 returns : tie.Need-returns
 returns c =
     let a = c .before .before .before .before .before .before .before .before .before .before in
     let h = a .pre .2 (c .before .before .before .before .before .before .before .if1 .taken) in
     rw (c .before .before .before .fresh .ensures, c .down .ensures, c .before .before .before .before .before .before .before .before .counted .ensures, c .before .before .before .before .before .before .before .if1 .taken)
-    (adv-down _ _ (a .args .budget) (a .args .n) (a .args .q) _ (omega arith) (omega arith) (omega arith) (a .pre .4) _ (long a) (marked a) (omega arith) (a .pre .6) h (c .before .before .before .before .before .before .first-from .ensures) (c .before .before .before .before .before .if2 .taken))
-
-same-length-2 : tie.Need-same-length-2
-same-length-2 c = search needs
+    (adv-down _ _ (a .args .budget) (a .args .n) (a .args .q) _ (omega arith) (omega arith) (omega arith) (a .pre .4) _ (frame-start _ _ (omega arith) (long a) (marked a) (omega arith) (a .pre .5)) (omega arith) (a .pre .6) h (c .before .before .before .before .before .before .first-from .ensures) (c .before .before .before .before .before .if2 .taken))
 
 returns-2 : tie.Need-returns-2
 returns-2 c =
@@ -61,9 +47,6 @@ returns-2 c =
     let h = a .pre .2 (c .before .before .before .before .before .before .if1 .taken) in
     let k = rw (c .before .before .before .before .before .before .before .counted .ensures) at (c .before .before .climb .ensures) in
     rw (c .before .before .before .before .before .before .if1 .taken) (adv-stuck _ _ (a .args .budget) (a .args .n) (a .args .q) _ (omega arith) (omega arith) (omega arith) (a .pre .4) _ _ _ h (c .before .before .before .before .before .first-from .ensures) (c .before .before .before .before .if2 .left) k)
-
-same-length-3 : tie.Need-same-length-3
-same-length-3 c = search needs
 
 returns-3 : tie.Need-returns-3
 returns-3 c =
@@ -75,16 +58,16 @@ pub advance-spec : {M : Type 1} → statement M
 advance-spec =
     tie.close
     (tie.spec
-    counted-requires
-    first-from-requires
+    (λ c κs. search needs)
+    (λ c κs. search needs)
     fresh-requires
-    cast-down
+    (λ c. search needs)
     down-requires
     climb-requires
     climb-requires-2
-    same-length
+    (λ c. search needs)
     returns
-    same-length-2
+    (λ c. search needs)
     returns-2
-    same-length-3
+    (λ c. search needs)
     returns-3)

@@ -4,10 +4,12 @@ use native.Mathlib.Omega.{arith}
 use borrow.Author.Needs.{needs}
 use Rattle.walk_state.specs.Letters.{hasLetter, First}
 use Rattle.walk_state.specs.Moves.{lastOf}
+use Rattle.walk.proofs.Frames.{frame-start}
 use Rattle.walk.proofs.Climbs.{Climbing, climb-start, climb-note, climb-skip, climb-over, climb-next, climb-back, climb-end, toGo, skip-less, back-less}
 use Rattle.walk.proofs.climb.Statement.{statement}
 use Rattle.walk.proofs.climb.Tie as tie
 
+-- the prefix at hand and its extensions are done, those of the alike letters passed over too, within the budget
 abbrev Inv-loop : tie.InvT-loop
 Inv-loop letters slot budget counts₀ q₀ counts q = Climbing (hasLetter (letters .of)) slot budget q₀ counts₀ q counts
 
@@ -25,72 +27,36 @@ noted : (c : tie.After-recall Inv-loop μ-loop) → Climbing (hasLetter (c .befo
 noted c = rw (c .recall .ensures .0) (climb-note _ _ _ _ _ (c .before .before .before .before .before .before .before .loop .q) (c .before .before .before .before .before .before .before .loop .counts) (c .before .before .before .before .before .before .before .loop .inv) (c .before .before .before .before .before .if1 .taken) (low (c .before .before .before)))
 
 loop-holds : tie.Need-loop-holds Inv-loop μ-loop
-loop-holds c = climb-start _ _ _ _ _ (omega arith) (search needs) (search needs) (omega arith) (omega arith) (c .before .pre .2) (c .before .pre .3) (c .before .pre .4)
-
-last-requires : tie.Need-last-requires Inv-loop μ-loop
-last-requires c κs = omega arith
-
-add-first-from : tie.Need-add-first-from Inv-loop μ-loop
-add-first-from c = omega arith
-
-first-from-requires : tie.Need-first-from-requires Inv-loop μ-loop
-first-from-requires c κs = omega arith
+loop-holds c = climb-start _ _ _ _ _ (frame-start _ _ (omega arith) (search needs) (search needs) (omega arith) (c .before .pre .3)) (omega arith) (c .before .pre .2) (c .before .pre .4)
 
 recall-requires : tie.Need-recall-requires Inv-loop μ-loop
 recall-requires c κs =
     let i = c .before .before .before .before .before .before .loop .inv in
-    (omega arith, omega arith, omega arith, i .marks, i .small, omega arith)
+    (omega arith, omega arith, omega arith, i .frame .marks, i .small, omega arith)
 
 sub-if4 : tie.Need-sub-if4 Inv-loop μ-loop
-sub-if4 c = c .before .before .before .before .before .before .before .before .before .before .before .loop .inv .most
-
-passed-requires : tie.Need-passed-requires Inv-loop μ-loop
-passed-requires c κs = tt
-
-same-length : tie.Need-same-length Inv-loop μ-loop
-same-length c = noted (c .before .before .before .before .before .before) .tallies
+sub-if4 c = c .before .before .before .before .before .before .before .before .before .before .before .loop .inv .frame .most
 
 returns : tie.Need-returns Inv-loop μ-loop
 returns c = rw (c .passed .ensures) (climb-over _ _ _ _ _ (c .before .before .before .before .before .before .before .before .before .before .before .before .before .loop .q) _ (noted (c .before .before .before .before .before .before)) (c .before .before .before .before .before .before .before .before .before .before .before .if1 .taken) _ (first (c .before .before .before .before .before .before .before .before .before)) (c .before .before .before .before .before .before .before .before .if2 .taken) (c .before .before .before .before .before .before .recall .result) (c .before .before .before .before .before .before .recall .ensures .1) (c .before .before .before .if3 .taken) (c .before .if4 .taken))
 
-cast-next : tie.Need-cast-next Inv-loop μ-loop
-cast-next c = omega arith
-
-next-requires : tie.Need-next-requires Inv-loop μ-loop
-next-requires c κs = omega arith
-
 counted-requires : tie.Need-counted-requires Inv-loop μ-loop
-counted-requires c κs = rw (c .next .ensures) (omega (arith, c .before .before .before .before .before .before .before .before .before .before .before .before .before .loop .inv .most, c .before .if4 .left, c .before .before .before .before .before .before .before .before .before .before .before .before .before .before .before .fits .budget))
+counted-requires c κs = rw (c .next .ensures) (omega (arith, c .before .before .before .before .before .before .before .before .before .before .before .before .before .loop .inv .frame .most, c .before .if4 .left, c .before .before .before .before .before .before .before .before .before .before .before .before .before .before .before .fits .budget))
 
 loop-less : tie.Need-loop-less Inv-loop μ-loop
-loop-less c = rw (c .counted .ensures, c .before .next .ensures) (skip-less (c .before .before .before .before .before .before .before .before .before .before .before .before .before .before .loop .q) (c .before .before .before .before .before .before .before .before .before .before .first-from .result) (c .before .before .before .before .before .before .before .recall .result) (c .before .before .before .before .before .before .before .before .before .before .before .before .if1 .taken) (omega (arith, c .before .before .before .before .before .before .before .before .before .before .before .before .before .before .loop .inv .shorter, c .before .before .before .before .before .before .before .before .before .before .before .before .before .before .loop .inv .room)) (c .before .before .before .before .before .before .before .before .before .before .before .before .before .before .loop .inv .letters) (omega (arith, first (c .before .before .before .before .before .before .before .before .before .before) .low)) (c .before .before .before .before .before .before .before .before .before .if2 .taken))
+loop-less c = rw (c .counted .ensures, c .before .next .ensures) (skip-less (c .before .before .before .before .before .before .before .before .before .before .before .before .before .before .loop .q) (c .before .before .before .before .before .before .before .before .before .before .first-from .result) (c .before .before .before .before .before .before .before .recall .result) (c .before .before .before .before .before .before .before .before .before .before .before .before .if1 .taken) (omega (arith, c .before .before .before .before .before .before .before .before .before .before .before .before .before .before .loop .inv .shorter, c .before .before .before .before .before .before .before .before .before .before .before .before .before .before .loop .inv .frame .short)) (c .before .before .before .before .before .before .before .before .before .before .before .before .before .before .loop .inv .frame .letters) (omega (arith, first (c .before .before .before .before .before .before .before .before .before .before) .low)) (c .before .before .before .before .before .before .before .before .before .if2 .taken))
 
 loop-again : tie.Need-loop-again Inv-loop μ-loop
 loop-again c = rw (c .counted .ensures, c .before .next .ensures) (climb-skip _ _ _ _ _ (c .before .before .before .before .before .before .before .before .before .before .before .before .before .before .loop .q) _ (noted (c .before .before .before .before .before .before .before)) (c .before .before .before .before .before .before .before .before .before .before .before .before .if1 .taken) _ (first (c .before .before .before .before .before .before .before .before .before .before)) (c .before .before .before .before .before .before .before .before .before .if2 .taken) (c .before .before .before .before .before .before .before .recall .result) (c .before .before .before .before .before .before .before .recall .ensures .1) (c .before .before .before .before .if3 .taken) (c .before .before .if4 .left))
 
-cast-next-2 : tie.Need-cast-next-2 Inv-loop μ-loop
-cast-next-2 c = omega arith
-
-next-requires-2 : tie.Need-next-requires-2 Inv-loop μ-loop
-next-requires-2 c κs = omega arith
-
-same-length-2 : tie.Need-same-length-2 Inv-loop μ-loop
-same-length-2 c = noted (c .before .before .before .before) .tallies
-
 returns-2 : tie.Need-returns-2 Inv-loop μ-loop
 returns-2 c = rw (c .next2 .ensures) (climb-next _ _ _ _ _ (c .before .before .before .before .before .before .before .before .before .before .before .loop .q) _ (noted (c .before .before .before .before)) (c .before .before .before .before .before .before .before .before .before .if1 .taken) _ (first (c .before .before .before .before .before .before .before)) (c .before .before .before .before .before .before .if2 .taken))
-
-back-requires : tie.Need-back-requires Inv-loop μ-loop
-back-requires c κs = omega arith
 
 loop-less-2 : tie.Need-loop-less-2 Inv-loop μ-loop
 loop-less-2 c = rw (c .back .ensures) (back-less (c .before .before .before .before .before .before .loop .q) (c .before .before .before .before .if1 .taken))
 
 loop-again-2 : tie.Need-loop-again-2 Inv-loop μ-loop
 loop-again-2 c = rw (c .back .ensures) (climb-back _ _ _ _ _ (c .before .before .before .before .before .before .loop .q) _ (c .before .before .before .before .before .before .loop .inv) (c .before .before .before .before .if1 .taken) _ (first (c .before .before)) (low (c .before .before)) (c .before .if2 .left))
-
-same-length-3 : tie.Need-same-length-3 Inv-loop μ-loop
-same-length-3 c = c .before .before .loop .inv .tallies
 
 returns-3 : tie.Need-returns-3 Inv-loop μ-loop
 returns-3 c = climb-end _ _ _ _ _ (c .before .before .loop .q) _ (c .before .before .loop .inv) (omega arith)
@@ -102,25 +68,25 @@ climb-spec =
     Inv-loop
     μ-loop
     loop-holds
-    last-requires
-    add-first-from
-    first-from-requires
+    (λ c κs. omega arith)
+    (λ c. omega arith)
+    (λ c κs. omega arith)
     recall-requires
     sub-if4
-    passed-requires
-    same-length
+    (λ c κs. tt)
+    (λ c. noted (c .before .before .before .before .before .before) .tallies)
     returns
-    cast-next
-    next-requires
+    (λ c. omega arith)
+    (λ c κs. omega arith)
     counted-requires
     loop-less
     loop-again
-    cast-next-2
-    next-requires-2
-    same-length-2
+    (λ c. omega arith)
+    (λ c κs. omega arith)
+    (λ c. noted (c .before .before .before .before) .tallies)
     returns-2
-    back-requires
+    (λ c κs. omega arith)
     loop-less-2
     loop-again-2
-    same-length-3
+    (λ c. c .before .before .loop .inv .tallies)
     returns-3)

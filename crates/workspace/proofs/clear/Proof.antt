@@ -8,6 +8,7 @@ use Rattle.workspace.proofs.Bits.{zeroed-none, zeroed-more}
 use Rattle.workspace.proofs.clear.Statement.{statement}
 use Rattle.workspace.proofs.clear.Tie as tie
 
+-- the first i words are zero, the others as they were
 abbrev Inv-loop : tie.InvT-loop
 Inv-loop ws₀ i₀ ws i = (i ≤ 7564) × (ws ≡ zeroed i ws₀) × (length ws ≡ length ws₀)
 
@@ -17,18 +18,6 @@ abbrev μ-loop : tie.MeasureT-loop
 loop-holds : tie.Need-loop-holds Inv-loop μ-loop
 loop-holds c = (search needs, zeroed-none (c .args .ws .now), search needs)
 
-mul-ws : tie.Need-mul-ws Inv-loop μ-loop
-mul-ws c = omega arith
-
-slice-write-ws : tie.Need-slice-write-ws Inv-loop μ-loop
-slice-write-ws c = omega arith
-
-add-i : tie.Need-add-i Inv-loop μ-loop
-add-i c = search needs
-
-loop-less : tie.Need-loop-less Inv-loop μ-loop
-loop-less c = search needs
-
 loop-again : tie.Need-loop-again Inv-loop μ-loop
 loop-again c =
     let i = c .before .loop .i in
@@ -36,12 +25,9 @@ loop-again c =
     let inv = c .before .loop .inv in
     (search needs, ap (λ l. set l i 0) (inv .1) ∙ zeroed-more i ws₀ (omega arith), simp length-set (inv .2))
 
-same-length : tie.Need-same-length Inv-loop μ-loop
-same-length c = search needs
-
 returns : tie.Need-returns Inv-loop μ-loop
 unfolding words
 returns c = c .before .loop .inv .1 ∙ ap (λ n. zeroed n (c .before .before .args .ws .now)) (omega arith)
 
 pub clear-spec : {M : Type 1} → statement M
-clear-spec = tie.close (tie.spec Inv-loop μ-loop loop-holds mul-ws slice-write-ws add-i loop-less loop-again same-length returns)
+clear-spec = tie.close (tie.spec Inv-loop μ-loop loop-holds (λ c. omega arith) (λ c. omega arith) (λ c. search needs) (λ c. search needs) loop-again (λ c. search needs) returns)

@@ -4,12 +4,6 @@ use borrow.Author.Needs.{needs}
 use Rattle.workspace.proofs.put.Statement.{statement}
 use Rattle.workspace.proofs.put.Tie as tie
 
-set-requires : tie.Need-set-requires
-set-requires c κs = search needs
-
-same-length : tie.Need-same-length
-same-length c = search needs
-
 returns : tie.Need-returns
 unfolding putBit
 returns c = rw (c .before .before .before .before .if1 .taken) (c .before .before .set .ensures)
@@ -19,4 +13,4 @@ unfolding putBit
 returns-2 c = rw (c .if1 .left) refl
 
 pub put-spec : {M : Type 1} → statement M
-put-spec = tie.close (tie.spec set-requires same-length returns returns-2)
+put-spec = tie.close (tie.spec (λ c κs. search needs) (λ c. search needs) returns returns-2)

@@ -6,12 +6,6 @@ use Rattle.workspace.proofs.Spans.{tri-twice, tri-is, span-lt}
 use Rattle.workspace.proofs.span.Statement.{statement}
 use Rattle.workspace.proofs.span.Tie as tie
 
-add-e : tie.Need-add-e
-add-e c = search needs
-
-add-result : tie.Need-add-result
-add-result c = search needs
-
 mul-result : tie.Need-mul-result
 unfolding spanAt
 mul-result c = omega (arith, tri-twice (c .args .i + c .args .m), span-lt (c .args .i) (c .args .m) (c .pre))
@@ -25,4 +19,4 @@ unfolding spanAt
 returns c = omega (arith, tri-is (c .args .i + c .args .m), span-lt (c .args .i) (c .args .m) (c .pre))
 
 pub span-spec : {M : Type 1} → statement M
-span-spec = tie.close (tie.spec add-e add-result mul-result add-result-2 returns)
+span-spec = tie.close (tie.spec (λ c. search needs) (λ c. search needs) mul-result add-result-2 returns)

@@ -6,45 +6,6 @@ use Rattle.workspace.specs.Bits.{wiped, fourAt}
 use Rattle.workspace.proofs.wipe.Statement.{statement}
 use Rattle.workspace.proofs.wipe.Tie as tie
 
-mul-i : tie.Need-mul-i
-mul-i c = search needs
-
-mul-ws : tie.Need-mul-ws
-mul-ws c = search needs
-
-slice-write-ws : tie.Need-slice-write-ws
-slice-write-ws c = search needs
-
-add-ws : tie.Need-add-ws
-add-ws c = search needs
-
-mul-ws-2 : tie.Need-mul-ws-2
-mul-ws-2 c = search needs
-
-slice-write-ws-2 : tie.Need-slice-write-ws-2
-slice-write-ws-2 c = simp length-set (omega arith)
-
-add-ws-2 : tie.Need-add-ws-2
-add-ws-2 c = search needs
-
-mul-ws-3 : tie.Need-mul-ws-3
-mul-ws-3 c = search needs
-
-slice-write-ws-3 : tie.Need-slice-write-ws-3
-slice-write-ws-3 c = simp length-set (omega arith)
-
-add-ws-3 : tie.Need-add-ws-3
-add-ws-3 c = search needs
-
-mul-ws-4 : tie.Need-mul-ws-4
-mul-ws-4 c = search needs
-
-slice-write-ws-4 : tie.Need-slice-write-ws-4
-slice-write-ws-4 c = simp length-set (omega arith)
-
-same-length : tie.Need-same-length
-same-length c = search needs
-
 returns : tie.Need-returns
 unfolding wiped fourAt
 returns c = refl
@@ -53,17 +14,17 @@ pub wipe-spec : {M : Type 1} → statement M
 wipe-spec =
     tie.close
     (tie.spec
-    mul-i
-    mul-ws
-    slice-write-ws
-    add-ws
-    mul-ws-2
-    slice-write-ws-2
-    add-ws-2
-    mul-ws-3
-    slice-write-ws-3
-    add-ws-3
-    mul-ws-4
-    slice-write-ws-4
-    same-length
+    (λ c. search needs)
+    (λ c. search needs)
+    (λ c. search needs)
+    (λ c. search needs)
+    (λ c. search needs)
+    (λ c. simp length-set (omega arith))
+    (λ c. search needs)
+    (λ c. search needs)
+    (λ c. simp length-set (omega arith))
+    (λ c. search needs)
+    (λ c. search needs)
+    (λ c. simp length-set (omega arith))
+    (λ c. search needs)
     returns)

@@ -1,39 +1,20 @@
-use mathlib.Core.Path.{sym, _∙_}
-use Rattle.alike.proofs.Comparing.{compares-not, compares-equals}
+use Rattle.alike.specs.Untold.{comparesV}
 use borrow.Author.Needs.{needs}
 use Rattle.alike.proofs.compare.compares_v.Statement.{statement}
 use Rattle.alike.proofs.compare.compares_v.Tie as tie
 
-assertion-at-requires : tie.Need-assertion-at-requires
-assertion-at-requires c κs = search needs
-
-returns : tie.Need-returns
-returns c =
-    let a = c .before .before .before .before in
-    sym (compares-not (a .args .s .now) (a .args .i) _ (a .pre .3) (c .before .before .assertion-at .ensures) (c .if1 .taken))
-
-uses-v-requires : tie.Need-uses-v-requires
-uses-v-requires c κs = search needs
-
 uses-v-requires-2 : tie.Need-uses-v-requires-2
 uses-v-requires-2 c κs =
-    let a = c .before .before .before .before .before .before in
-    let f = c .before .before .before .before .assertion-at .ensures .facts .equals (c .before .before .if1 .left) in
-    (a .pre .0, a .pre .2, f)
+    let a = c .before .before .before .before .before .pre in
+    (a .0, a .1, rw (a .1 .counts) (rw (← c .second-run .ensures) at (a .2 .sound .second)))
+
+returns : tie.Need-returns
+unfolding comparesV
+returns c = rw (← c .before .before .before .uses-v .ensures, c .before .before .if1 .taken, ← c .before .second-run .ensures) (c .uses-v2 .ensures)
 
 returns-2 : tie.Need-returns-2
-returns-2 c =
-    let a = c .before .before .before .before .before .before .before in
-    let e = sym (c .before .before .uses-v .ensures) ∙ c .before .if2 .taken in
-    c .uses-v2 .ensures ∙ sym (compares-equals (a .args .s .now) (a .args .i) _ (a .pre .3) (c .before .before .before .before .before .assertion-at .ensures) (c .before .before .before .if1 .left) ∙ rw e)
-
-returns-3 : tie.Need-returns-3
-returns-3 c =
-    let a = c .before .before .before .before .before .before in
-    let e = sym (c .before .uses-v .ensures) ∙ c .if2 .left in
-    sym (compares-equals (a .args .s .now) (a .args .i) _ (a .pre .3) (c .before .before .before .before .assertion-at .ensures) (c .before .before .if1 .left) ∙ rw e)
+unfolding comparesV
+returns-2 c = rw (← c .before .uses-v .ensures, c .if1 .left)
 
 pub compares-v-spec : {M : Type 1} → statement M
-compares-v-spec =
-    tie.close
-    (tie.spec assertion-at-requires returns uses-v-requires uses-v-requires-2 returns-2 returns-3)
+compares-v-spec = tie.close (tie.spec (λ c κs. search needs) (λ c κs. search needs) uses-v-requires-2 returns returns-2)

@@ -21,75 +21,16 @@ stretch p = subst (λ z. Obeys (length (p .before .before .before .before .befor
 split : (p : tie.After-known-told3) → Obeys (length (p .before .before .before .before .before .before .args .text .now)) 256 (p .before .before .before .before .before .before .args .m) (Split (p .before .x3 .given .0 .0) (p .before .x3 .given .0 .1 .0) (p .before .x3 .given .0 .1 .1 .0))
 split p = subst (λ z. Obeys (length (p .before .before .before .before .before .before .args .text .now)) 256 (p .before .before .before .before .before .before .args .m) (optionOf z)) (p .before .x3 .given .1) (p .before .before .before .before .before .before .pre .0)
 
-enum-known-x : tie.Need-enum-known-x
-enum-known-x c = search needs
-
-shared-slice-read-wide : tie.Need-shared-slice-read-wide
-shared-slice-read-wide c =
-    omega (arith, byte (c .before) .0)
-
-wide-requires : tie.Need-wide-requires
-wide-requires c κs = search needs
-
-enum-known-x-2 : tie.Need-enum-known-x-2
-enum-known-x-2 c = search needs
-
-add-e : tie.Need-add-e
-add-e c =
-    omega (arith, stretch c .2)
-
-sub-stands : tie.Need-sub-stands
-sub-stands c = search needs
-
-part-stands-start : tie.Need-part-stands-start
-part-stands-start c = search needs
-
 part-stands-end : tie.Need-part-stands-end
 part-stands-end c =
     let h = stretch c .2 in
     search needs
 
-stands-requires : tie.Need-stands-requires
-stands-requires c κs =
-    simp (length-take, length-drop) (omega (arith, stretch (c .before) .0))
-
-enum-known-x-3 : tie.Need-enum-known-x-3
-enum-known-x-3 c = search needs
-
-span-requires : tie.Need-span-requires
-span-requires c κs =
-    omega (arith, split c .1)
-
-add-span : tie.Need-add-span
-add-span c =
-    omega (arith, split (c .before) .1)
-
-sub-span : tie.Need-sub-span
-sub-span c =
-    omega (arith, split (c .before) .1)
-
-span-requires-2 : tie.Need-span-requires-2
-span-requires-2 c κs =
-    omega (arith, split (c .before) .1)
-
-test-requires : tie.Need-test-requires
-test-requires c κs =
-    (omega arith, split (c .before .before) .2)
-
-test-requires-2 : tie.Need-test-requires-2
-test-requires-2 c κs =
-    (omega arith, split (c .before .before .before .before) .3)
-
-enum-told : tie.Need-enum-told
-enum-told c = search needs
-
 returns : tie.Need-returns
-returns c =
-    rw (c .before .before .before .before .x .given .1, holds-byte, ← c .before .wide .ensures .0, le-leb _ _ (c .if1 .taken))
+returns c = rw (c .before .before .before .before .x .given .1, holds-byte, ← c .before .wide .ensures .0, le-leb _ _ (c .if1 .taken))
 
 returns-2 : tie.Need-returns-2
-returns-2 c =
-    rw (c .before .before .before .before .x .given .1, holds-byte, ← c .before .wide .ensures .0, lt-leb _ _ (c .if1 .left))
+returns-2 c = rw (c .before .before .before .before .x .given .1, holds-byte, ← c .before .wide .ensures .0, lt-leb _ _ (c .if1 .left))
 
 returns-3 : tie.Need-returns-3
 returns-3 c =
@@ -107,30 +48,29 @@ returns-5 c =
     rw (c .before .before .before .before .before .x3 .given .1, holds-split, ← c .before .before .before .span .ensures .0, ← c .before .test .ensures, c .if2 .left)
 
 returns-6 : tie.Need-returns-6
-returns-6 c =
-    rw (c .enum-told .given .1, holds-nil)
+returns-6 c = rw (c .enum-told .given .1, holds-nil)
 
 pub holds-spec : {M : Type 1} → statement M
 holds-spec =
     tie.close
     (tie.spec
-    enum-known-x
-    shared-slice-read-wide
-    wide-requires
-    enum-known-x-2
-    add-e
-    sub-stands
-    part-stands-start
+    (λ c. search needs)
+    (λ c. omega (arith, byte (c .before) .0))
+    (λ c κs. search needs)
+    (λ c. search needs)
+    (λ c. omega (arith, stretch c .2))
+    (λ c. search needs)
+    (λ c. search needs)
     part-stands-end
-    stands-requires
-    enum-known-x-3
-    span-requires
-    add-span
-    sub-span
-    span-requires-2
-    test-requires
-    test-requires-2
-    enum-told
+    (λ c κs. simp (length-take, length-drop) (omega (arith, stretch (c .before) .0)))
+    (λ c. search needs)
+    (λ c κs. omega (arith, split c .1))
+    (λ c. omega (arith, split (c .before) .1))
+    (λ c. omega (arith, split (c .before) .1))
+    (λ c κs. omega (arith, split (c .before) .1))
+    (λ c κs. (omega arith, split (c .before .before) .2))
+    (λ c κs. (omega arith, split (c .before .before .before .before) .3))
+    (λ c. search needs)
     returns
     returns-2
     returns-3

@@ -10,6 +10,7 @@ use Rattle.paper.specs.Gate.{headEnd, headAt}
 use Rattle.gate.proofs.marks.mark_group.Statement.{statement}
 use Rattle.gate.proofs.marks.mark_group.Tie as tie
 
+-- the heads of the first r rows are marked, and o is where the next one begins
 abbrev Inv-loop : tie.InvT-loop
 Inv-loop list text word work₀ rows m at o₀ r₀ work o r =
     (r ≤ rows) × (o ≡ headAt list m r) × (work ≡ inTurn r (markHead list text word m) work₀) × (length work ≡ length work₀)
@@ -19,20 +20,11 @@ abbrev μ-loop : tie.MeasureT-loop
     rows - r
 
 loop-holds : tie.Need-loop-holds Inv-loop μ-loop
-loop-holds c =
-    (omega arith, c .before .before .before .before .pre .3 ∙ head-first _ _, sym (turn-none _ _), refl)
+loop-holds c = (omega arith, c .before .before .before .before .pre .3 ∙ head-first _ _, sym (turn-none _ _), refl)
 
 mark-head-requires : tie.Need-mark-head-requires Inv-loop μ-loop
 mark-head-requires c κs =
     (record { formed = c .before .before .before .before .before .before .before .pre .0 .formed; fit = c .before .before .before .before .before .before .before .pre .0 .fit; room = omega (arith, c .before .before .loop .inv .3, c .before .before .before .before .before .before .before .pre .0 .room) }, c .before .before .before .before .before .before .before .pre .2, omega arith, c .before .before .loop .inv .1)
-
-add-r : tie.Need-add-r Inv-loop μ-loop
-add-r c =
-    omega arith
-
-loop-less : tie.Need-loop-less Inv-loop μ-loop
-loop-less c =
-    omega arith
 
 loop-again : tie.Need-loop-again Inv-loop μ-loop
 loop-again c =
@@ -40,10 +32,6 @@ loop-again c =
     let t = c .before .before .mark-head in
     let l = c .before .before .before .before .before .loop in
     (omega arith, t .ensures .0 ∙ ap (λ x. headEnd (a .list .now) x) (l .inv .1) ∙ sym (head-next _ _ _), t .ensures .1 ∙ ap (λ v. markHead (a .list .now) (a .text .now) (a .word .now) (a .m) (l .r) v) (l .inv .2) ∙ sym (turn-more _ _ _), t .kept .1 .1 .1 .0 ∙ l .inv .3)
-
-same-length : tie.Need-same-length Inv-loop μ-loop
-same-length c =
-    search needs
 
 returns : tie.Need-returns Inv-loop μ-loop
 unfolding markGroup
@@ -59,8 +47,8 @@ mark-group-spec =
     μ-loop
     loop-holds
     mark-head-requires
-    add-r
-    loop-less
+    (λ c. omega arith)
+    (λ c. omega arith)
     loop-again
-    same-length
+    (λ c. search needs)
     returns)

@@ -11,6 +11,7 @@ use Rattle.paper.specs.Gate.{headAt, groupBegin}
 use Rattle.gate.proofs.marks.mark_groups.Statement.{statement}
 use Rattle.gate.proofs.marks.mark_groups.Tie as tie
 
+-- the first m groups are marked, and `at` is where the next one begins
 abbrev Inv-loop : tie.InvT-loop
 Inv-loop list text word work₀ rows at₀ m₀ work at m =
     (m ≤ length word + 1) × (at ≡ groupBegin list m) × (work ≡ inTurn m (markGroup list text word) work₀) × (length work ≡ length work₀)
@@ -20,20 +21,11 @@ abbrev μ-loop : tie.MeasureT-loop
     length word + 1 - m
 
 loop-holds : tie.Need-loop-holds Inv-loop μ-loop
-loop-holds c =
-    (omega arith, group-none _, sym (turn-none _ _), refl)
+loop-holds c = (omega arith, group-none _, sym (turn-none _ _), refl)
 
 mark-group-requires : tie.Need-mark-group-requires Inv-loop μ-loop
 mark-group-requires c κs =
     (record { formed = c .before .before .before .before .before .before .before .pre .0 .formed; fit = c .before .before .before .before .before .before .before .pre .0 .fit; room = omega (arith, c .before .before .loop .inv .3, c .before .before .before .before .before .before .before .pre .0 .room) }, c .before .before .before .before .before .before .before .pre .1, omega (arith, c .before .before .before .before .before .before .before .pre .0 .fit), c .before .before .loop .inv .1 ∙ begins _ _ (c .before .before .before .before .before .before .before .pre .0 .formed) _ (omega (arith, c .before .before .before .before .before .before .before .pre .0 .fit)))
-
-add-m : tie.Need-add-m Inv-loop μ-loop
-add-m c =
-    omega arith
-
-loop-less : tie.Need-loop-less Inv-loop μ-loop
-loop-less c =
-    omega arith
 
 loop-again : tie.Need-loop-again Inv-loop μ-loop
 loop-again c =
@@ -41,10 +33,6 @@ loop-again c =
     let t = c .before .before .mark-group in
     let l = c .before .before .before .before .before .loop in
     (omega arith, t .ensures .0 ∙ ap (λ k. headAt (a .list .now) (l .m) k) (c .before .before .before .before .before .before .before .before .before .before .pre .1) ∙ sym (group-next _ _), t .ensures .1 ∙ ap (λ v. markGroup (a .list .now) (a .text .now) (a .word .now) (l .m) v) (l .inv .2) ∙ sym (turn-more _ _ _), t .kept .1 .1 .1 .0 ∙ l .inv .3)
-
-same-length : tie.Need-same-length Inv-loop μ-loop
-same-length c =
-    search needs
 
 returns : tie.Need-returns Inv-loop μ-loop
 unfolding marked
@@ -60,8 +48,8 @@ mark-groups-spec =
     μ-loop
     loop-holds
     mark-group-requires
-    add-m
-    loop-less
+    (λ c. omega arith)
+    (λ c. omega arith)
     loop-again
-    same-length
+    (λ c. search needs)
     returns)

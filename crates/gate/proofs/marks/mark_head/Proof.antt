@@ -13,6 +13,7 @@ use Rattle.paper.specs.Gate.{headEnd, optionCount}
 use Rattle.gate.proofs.marks.mark_head.Statement.{statement}
 use Rattle.gate.proofs.marks.mark_head.Tie as tie
 
+-- the first j options are marked
 abbrev Inv-loop : tie.InvT-loop
 Inv-loop list text word work₀ m r o count j₀ work j =
     (j ≤ count) × (work ≡ inTurn j (markAt list text word m r) work₀) × (length work ≡ length work₀)
@@ -24,33 +25,17 @@ abbrev μ-loop : tie.MeasureT-loop
 inside : (p : tie.Start Inv-loop μ-loop) → headEnd (p .args .list .now) (p .args .o) ≤ length (p .args .list .now)
 inside p = head-inside _ _ (p .pre .0 .formed) _ _ _ (p .pre .1) (p .pre .2) (p .pre .3)
 
-add-u32-at : tie.Need-add-u32-at Inv-loop μ-loop
-add-u32-at c =
-    omega (arith, inside (c .before .before .before .before))
-
-u32-at-requires : tie.Need-u32-at-requires Inv-loop μ-loop
-u32-at-requires c κs =
-    omega (arith, inside (c .before .before .before .before))
-
 loop-holds : tie.Need-loop-holds Inv-loop μ-loop
-loop-holds c =
-    (omega arith, sym (turn-none _ _), refl)
-
-add-option-at : tie.Need-add-option-at Inv-loop μ-loop
-add-option-at c =
-    omega (arith, inside (c .before .before .before .before .before .before .before))
+loop-holds c = (omega arith, sym (turn-none _ _), refl)
 
 mul-option-at : tie.Need-mul-option-at Inv-loop μ-loop
-mul-option-at c =
-    omega (arith, inside (c .before .before .before .before .before .before .before), c .before .before .u32-at .ensures .0)
+mul-option-at c = omega (arith, inside (c .before .before .before .before .before .before .before), c .before .before .u32-at .ensures .0)
 
 add-option-at-2 : tie.Need-add-option-at-2 Inv-loop μ-loop
-add-option-at-2 c =
-    omega (arith, inside (c .before .before .before .before .before .before .before), c .before .before .u32-at .ensures .0)
+add-option-at-2 c = omega (arith, inside (c .before .before .before .before .before .before .before), c .before .before .u32-at .ensures .0)
 
 option-at-requires : tie.Need-option-at-requires Inv-loop μ-loop
-option-at-requires c κs =
-    omega (arith, inside (c .before .before .before .before .before .before .before), c .before .before .u32-at .ensures .0)
+option-at-requires c κs = omega (arith, inside (c .before .before .before .before .before .before .before), c .before .before .u32-at .ensures .0)
 
 mark-option-requires : tie.Need-mark-option-requires Inv-loop μ-loop
 mark-option-requires c κs =
@@ -60,14 +45,6 @@ mark-option-requires c κs =
     let t = formed (a .list .now) (length (a .text .now)) w .trailer in
     (subst (λ x. Obeys (length (a .text .now)) 256 (a .m) x) (sym (c .before .option-at .ensures)) (option-inside _ _ w _ _ _ (c .before .before .before .before .before .before .before .before .before .pre .1) (c .before .before .before .before .before .before .before .before .before .pre .2) (c .before .before .before .before .before .before .before .before .before .pre .3) _ z), omega (arith, c .before .before .before .before .before .before .before .before .before .pre .0 .fit), omega (arith, c .before .before .before .before .before .before .before .before .before .pre .0 .fit, t .most), omega (arith, c .before .before .before .loop .inv .2, c .before .before .before .before .before .before .before .before .before .pre .0 .room), omega (arith, t .few))
 
-add-j : tie.Need-add-j Inv-loop μ-loop
-add-j c =
-    omega arith
-
-loop-less : tie.Need-loop-less Inv-loop μ-loop
-loop-less c =
-    omega arith
-
 loop-again : tie.Need-loop-again Inv-loop μ-loop
 loop-again c =
     let a = c .before .before .before .before .before .before .before .before .before .before .before .before .args in
@@ -75,21 +52,11 @@ loop-again c =
     let l = c .before .before .before .before .before .before .loop in
     (omega arith, t .ensures ∙ ap (λ v. markOption (a .text .now) (a .word .now) (a .m) (a .r) (optionOf (c .before .before .before .before .option-at .result)) v) (l .inv .1) ∙ mark-at _ _ _ _ _ _ (c .before .before .before .before .before .before .before .before .before .before .before .before .pre .3) _ _ _ (c .before .before .before .before .option-at .ensures) ∙ sym (turn-more _ _ _), t .kept .1 .1 .0 ∙ l .inv .2)
 
-add-result : tie.Need-add-result Inv-loop μ-loop
-add-result c =
-    omega (arith, inside (c .before .before .before .before .before .before .before))
-
 mul-result : tie.Need-mul-result Inv-loop μ-loop
-mul-result c =
-    omega (arith, inside (c .before .before .before .before .before .before .before), c .before .before .u32-at .ensures .0)
+mul-result c = omega (arith, inside (c .before .before .before .before .before .before .before), c .before .before .u32-at .ensures .0)
 
 add-result-2 : tie.Need-add-result-2 Inv-loop μ-loop
-add-result-2 c =
-    omega (arith, inside (c .before .before .before .before .before .before .before), c .before .before .u32-at .ensures .0)
-
-same-length : tie.Need-same-length Inv-loop μ-loop
-same-length c =
-    search needs
+add-result-2 c = omega (arith, inside (c .before .before .before .before .before .before .before), c .before .before .u32-at .ensures .0)
 
 returns : tie.Need-returns Inv-loop μ-loop
 returns c =
@@ -102,19 +69,19 @@ mark-head-spec =
     (tie.spec
     Inv-loop
     μ-loop
-    add-u32-at
-    u32-at-requires
+    (λ c. omega (arith, inside (c .before .before .before .before)))
+    (λ c κs. omega (arith, inside (c .before .before .before .before)))
     loop-holds
-    add-option-at
+    (λ c. omega (arith, inside (c .before .before .before .before .before .before .before)))
     mul-option-at
     add-option-at-2
     option-at-requires
     mark-option-requires
-    add-j
-    loop-less
+    (λ c. omega arith)
+    (λ c. omega arith)
     loop-again
-    add-result
+    (λ c. omega (arith, inside (c .before .before .before .before .before .before .before)))
     mul-result
     add-result-2
-    same-length
+    (λ c. search needs)
     returns)

@@ -9,6 +9,7 @@ use Rattle.list.specs.Read.{optionOf}
 use Rattle.gate.proofs.marks.mark_option.Statement.{statement}
 use Rattle.gate.proofs.marks.mark_option.Tie as tie
 
+-- the option is marked at the first i starts
 abbrev Inv-loop : tie.InvT-loop
 Inv-loop text word work₀ x m r i₀ work i =
     (i + m ≤ length word + 1) × (work ≡ inTurn i (markStart text word m r (optionOf x)) work₀) × (length work ≡ length work₀)
@@ -18,24 +19,7 @@ abbrev μ-loop : tie.MeasureT-loop
     length word + 1 - m - i
 
 loop-holds : tie.Need-loop-holds Inv-loop μ-loop
-loop-holds c =
-    (omega arith, sym (turn-none _ _), refl)
-
-add-loop : tie.Need-add-loop Inv-loop μ-loop
-add-loop c =
-    omega arith
-
-mark-start-requires : tie.Need-mark-start-requires Inv-loop μ-loop
-mark-start-requires c κs =
-    search needs
-
-add-i : tie.Need-add-i Inv-loop μ-loop
-add-i c =
-    omega arith
-
-loop-less : tie.Need-loop-less Inv-loop μ-loop
-loop-less c =
-    omega arith
+loop-holds c = (omega arith, sym (turn-none _ _), refl)
 
 loop-again : tie.Need-loop-again Inv-loop μ-loop
 loop-again c =
@@ -43,10 +27,6 @@ loop-again c =
     let t = c .before .before .mark-start in
     let l = c .before .before .before .before .before .loop in
     (omega arith, t .ensures ∙ ap (λ w. markStart (a .text .now) (a .word .now) (a .m) (a .r) (optionOf (a .x)) (l .i) w) (l .inv .1) ∙ sym (turn-more _ _ _), t .kept .1 .1 .0 ∙ l .inv .2)
-
-same-length : tie.Need-same-length Inv-loop μ-loop
-same-length c =
-    search needs
 
 returns : tie.Need-returns Inv-loop μ-loop
 unfolding markOption
@@ -61,10 +41,10 @@ mark-option-spec =
     Inv-loop
     μ-loop
     loop-holds
-    add-loop
-    mark-start-requires
-    add-i
-    loop-less
+    (λ c. omega arith)
+    (λ c κs. search needs)
+    (λ c. omega arith)
+    (λ c. omega arith)
     loop-again
-    same-length
+    (λ c. search needs)
     returns)

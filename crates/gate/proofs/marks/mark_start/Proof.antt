@@ -4,25 +4,10 @@ use borrow.Author.Needs.{needs}
 use Rattle.gate.proofs.marks.mark_start.Statement.{statement}
 use Rattle.gate.proofs.marks.mark_start.Tie as tie
 
-holds-requires : tie.Need-holds-requires
-holds-requires c κs = search needs
-
-same-length : tie.Need-same-length
-same-length c = search needs
-
 returns : tie.Need-returns
 unfolding markStart
 returns c =
     rw (← c .before .holds .ensures, not-true (c .before .holds .result) (c .if1 .taken))
-
-span-requires : tie.Need-span-requires
-span-requires c κs = search needs
-
-set-requires : tie.Need-set-requires
-set-requires c κs = search needs
-
-same-length-2 : tie.Need-same-length-2
-same-length-2 c = search needs
 
 returns-2 : tie.Need-returns-2
 unfolding markStart
@@ -33,10 +18,10 @@ pub mark-start-spec : {M : Type 1} → statement M
 mark-start-spec =
     tie.close
     (tie.spec
-    holds-requires
-    same-length
+    (λ c κs. search needs)
+    (λ c. search needs)
     returns
-    span-requires
-    set-requires
-    same-length-2
+    (λ c κs. search needs)
+    (λ c κs. search needs)
+    (λ c. search needs)
     returns-2)

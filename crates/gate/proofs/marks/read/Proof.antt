@@ -8,28 +8,9 @@ use borrow.Author.Needs.{needs}
 use Rattle.gate.proofs.marks.read.Statement.{statement}
 use Rattle.gate.proofs.marks.read.Tie as tie
 
-trailer-of-requires : tie.Need-trailer-of-requires
-trailer-of-requires c κs =
-    right-trailer _ _ (c .before .before .before .before .pre .formed)
-
-clear-requires : tie.Need-clear-requires
-clear-requires c κs = search needs
-
 mark-groups-requires : tie.Need-mark-groups-requires
 mark-groups-requires c κs =
     (record { formed = c .before .before .before .before .before .before .before .before .before .before .pre .formed; fit = c .before .before .before .before .before .before .before .before .before .before .pre .fit; room = omega (arith, c .before .before .before .clear .kept .0, c .before .before .before .before .before .before .before .before .before .before .pre .room) }, c .before .before .before .before .before .trailer-of .ensures .rows-are)
-
-span-requires : tie.Need-span-requires
-span-requires c κs = search needs
-
-test-requires : tie.Need-test-requires
-test-requires c κs = search needs
-
-answered-requires : tie.Need-answered-requires
-answered-requires c κs = search needs
-
-same-length : tie.Need-same-length
-same-length c = search needs
 
 returns : tie.Need-returns
 returns c =
@@ -43,11 +24,11 @@ pub read-spec : {M : Type 1} → statement M
 read-spec =
     tie.close
     (tie.spec
-    trailer-of-requires
-    clear-requires
+    (λ c κs. right-trailer _ _ (c .before .before .before .before .pre .formed))
+    (λ c κs. search needs)
     mark-groups-requires
-    span-requires
-    test-requires
-    answered-requires
-    same-length
+    (λ c κs. search needs)
+    (λ c κs. search needs)
+    (λ c κs. search needs)
+    (λ c. search needs)
     returns)

@@ -7,6 +7,7 @@ use Rattle.gate.proofs.Holding.{stands-yes, stands-no}
 use Rattle.gate.proofs.marks.stands.Statement.{statement}
 use Rattle.gate.proofs.marks.stands.Tie as tie
 
+-- the first j bytes of the part stand in the word
 abbrev Inv-loop : tie.InvT-loop
 Inv-loop part word i j₀ j =
     (j ≤ length part) × ((p : ℕ) → p < j → getD part p 0 ≡ getD word (i + p) 0)
@@ -16,40 +17,16 @@ abbrev μ-loop : tie.MeasureT-loop
     length part - j
 
 loop-holds : tie.Need-loop-holds Inv-loop μ-loop
-loop-holds c =
-    (omega arith, λ p h. absurd (omega arith))
-
-shared-slice-read-if1 : tie.Need-shared-slice-read-if1 Inv-loop μ-loop
-shared-slice-read-if1 c =
-    omega arith
-
-add-if1 : tie.Need-add-if1 Inv-loop μ-loop
-add-if1 c =
-    omega arith
-
-shared-slice-read-if1-2 : tie.Need-shared-slice-read-if1-2 Inv-loop μ-loop
-shared-slice-read-if1-2 c =
-    omega arith
+loop-holds c = (omega arith, λ p h. absurd (omega arith))
 
 returns : tie.Need-returns Inv-loop μ-loop
-returns c =
-    sym (stands-no _ _ _ (c .before .before .before .before .loop .j) (omega arith) (c .if1 .taken))
-
-add-j : tie.Need-add-j Inv-loop μ-loop
-add-j c =
-    omega arith
-
-loop-less : tie.Need-loop-less Inv-loop μ-loop
-loop-less c =
-    omega arith
+returns c = sym (stands-no _ _ _ (c .before .before .before .before .loop .j) (omega arith) (c .if1 .taken))
 
 loop-again : tie.Need-loop-again Inv-loop μ-loop
-loop-again c =
-    (omega arith, below-more _ _ (c .before .before .before .before .loop .inv .1) (c .if1 .left))
+loop-again c = (omega arith, below-more _ _ (c .before .before .before .before .loop .inv .1) (c .if1 .left))
 
 returns-2 : tie.Need-returns-2 Inv-loop μ-loop
-returns-2 c =
-    sym (stands-yes _ _ _ (λ p h. c .before .loop .inv .1 p (omega arith)))
+returns-2 c = sym (stands-yes _ _ _ (λ p h. c .before .loop .inv .1 p (omega arith)))
 
 pub stands-spec : {M : Type 1} → statement M
 stands-spec =
@@ -58,11 +35,11 @@ stands-spec =
     Inv-loop
     μ-loop
     loop-holds
-    shared-slice-read-if1
-    add-if1
-    shared-slice-read-if1-2
+    (λ c. omega arith)
+    (λ c. omega arith)
+    (λ c. omega arith)
     returns
-    add-j
-    loop-less
+    (λ c. omega arith)
+    (λ c. omega arith)
     loop-again
     returns-2)

@@ -3,34 +3,11 @@ use borrow.Author.Needs.{needs}
 use Rattle.list.proofs.fields.counts_ok.Statement.{statement}
 use Rattle.list.proofs.fields.counts_ok.Tie as tie
 
-sub-wide : tie.Need-sub-wide
-sub-wide c = search needs
-
-shared-slice-read-wide : tie.Need-shared-slice-read-wide
-shared-slice-read-wide c = search needs
-
-wide-requires : tie.Need-wide-requires
-wide-requires c κs = search needs
-
 returns : tie.Need-returns
-returns c =
-    rw (← c .before .wide .ensures .0, lt-leb _ _ (c .if1 .taken))
-
-mul-if2 : tie.Need-mul-if2
-mul-if2 c = search needs
-
-add-if2 : tie.Need-add-if2
-add-if2 c = search needs
+returns c = rw (← c .before .wide .ensures .0, lt-leb _ _ (c .if1 .taken))
 
 returns-2 : tie.Need-returns-2
-returns-2 c =
-    rw (← c .before .before .wide .ensures .0, le-leb _ _ (c .before .if1 .left), lt-leb _ _ (c .if2 .taken))
-
-sub-u16-at : tie.Need-sub-u16-at
-sub-u16-at c = search needs
-
-u16-at-requires : tie.Need-u16-at-requires
-u16-at-requires c κs = search needs
+returns-2 c = rw (← c .before .before .wide .ensures .0, le-leb _ _ (c .before .if1 .left), lt-leb _ _ (c .if2 .taken))
 
 returns-3 : tie.Need-returns-3
 returns-3 c =
@@ -40,12 +17,6 @@ returns-4 : tie.Need-returns-4
 returns-4 c =
     rw (← c .before .before .before .before .before .wide .ensures .0, le-leb _ _ (c .before .before .before .before .if1 .left), le-leb _ _ (c .before .before .before .if2 .left), ← c .before .before .u16-at .ensures .0, le-leb _ _ (c .before .if3 .left), lt-leb _ _ (c .if4 .taken))
 
-sub-u16-at-2 : tie.Need-sub-u16-at-2
-sub-u16-at-2 c = search needs
-
-u16-at-requires-2 : tie.Need-u16-at-requires-2
-u16-at-requires-2 c κs = search needs
-
 returns-5 : tie.Need-returns-5
 returns-5 c =
     rw (← c .before .before .before .before .before .before .wide .ensures .0, le-leb _ _ (c .before .before .before .before .before .if1 .left), le-leb _ _ (c .before .before .before .before .if2 .left), ← c .before .before .before .u16-at .ensures .0, le-leb _ _ (c .before .before .if3 .left), le-leb _ _ (c .before .if4 .left), ← c .u16-at2 .ensures .0)
@@ -54,17 +25,17 @@ pub counts-ok-spec : {M : Type 1} → statement M
 counts-ok-spec =
     tie.close
     (tie.spec
-    sub-wide
-    shared-slice-read-wide
-    wide-requires
+    (λ c. search needs)
+    (λ c. search needs)
+    (λ c κs. search needs)
     returns
-    mul-if2
-    add-if2
+    (λ c. search needs)
+    (λ c. search needs)
     returns-2
-    sub-u16-at
-    u16-at-requires
+    (λ c. search needs)
+    (λ c κs. search needs)
     returns-3
     returns-4
-    sub-u16-at-2
-    u16-at-requires-2
+    (λ c. search needs)
+    (λ c κs. search needs)
     returns-5)

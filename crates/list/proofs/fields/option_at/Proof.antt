@@ -7,9 +7,6 @@ use borrow.Author.Needs.{needs}
 use Rattle.list.proofs.fields.option_at.Statement.{statement}
 use Rattle.list.proofs.fields.option_at.Tie as tie
 
-fields-at-requires : tie.Need-fields-at-requires
-fields-at-requires c κs = search needs
-
 returns : tie.Need-returns
 unfolding optOf
 returns c =
@@ -37,4 +34,4 @@ returns-5 c =
 
 pub option-at-spec : {M : Type 1} → statement M
 option-at-spec =
-    tie.close (tie.spec fields-at-requires returns returns-2 returns-3 returns-4 returns-5)
+    tie.close (tie.spec (λ c κs. search needs) returns returns-2 returns-3 returns-4 returns-5)

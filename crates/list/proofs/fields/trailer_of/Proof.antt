@@ -11,37 +11,6 @@ use Rattle.list.proofs.fields.trailer_of.Tie as tie
 known : (p : tie.Start) → Trailer (p .args .list .now)
 known p = trailer-of _ (p .pre .1)
 
-sub-wide : tie.Need-sub-wide
-sub-wide c = search needs
-
-shared-slice-read-wide : tie.Need-shared-slice-read-wide
-shared-slice-read-wide c = search needs
-
-wide-requires : tie.Need-wide-requires
-wide-requires c κs = search needs
-
-sub-u16-at : tie.Need-sub-u16-at
-sub-u16-at c = search needs
-
-u16-at-requires : tie.Need-u16-at-requires
-u16-at-requires c κs = search needs
-
-sub-u16-at-2 : tie.Need-sub-u16-at-2
-sub-u16-at-2 c = search needs
-
-u16-at-requires-2 : tie.Need-u16-at-requires-2
-u16-at-requires-2 c κs = search needs
-
-mul-t6 : tie.Need-mul-t6
-mul-t6 c = search needs
-
-add-t9 : tie.Need-add-t9
-add-t9 c = search needs
-
-sub-t10 : tie.Need-sub-t10
-sub-t10 c =
-    omega (arith, known (c .before .before .before .before .before))
-
 returns : tie.Need-returns
 unfolding trailerOf
 returns c =
@@ -65,14 +34,14 @@ pub trailer-of-spec : {M : Type 1} → statement M
 trailer-of-spec =
     tie.close
     (tie.spec
-    sub-wide
-    shared-slice-read-wide
-    wide-requires
-    sub-u16-at
-    u16-at-requires
-    sub-u16-at-2
-    u16-at-requires-2
-    mul-t6
-    add-t9
-    sub-t10
+    (λ c. search needs)
+    (λ c. search needs)
+    (λ c κs. search needs)
+    (λ c. search needs)
+    (λ c κs. search needs)
+    (λ c. search needs)
+    (λ c κs. search needs)
+    (λ c. search needs)
+    (λ c. search needs)
+    (λ c. omega (arith, known (c .before .before .before .before .before)))
     returns)

@@ -8,6 +8,7 @@ use Rattle.walk_state.specs.Letters.{hasLetter}
 use Rattle.walk_state.proofs.Letters.first_from.Statement.{statement}
 use Rattle.walk_state.proofs.Letters.first_from.Tie as tie
 
+-- no letter stands from c up to `at`
 abbrev Inv-loop : tie.InvT-loop
 Inv-loop self c at₀ at = (c ≤ at) × (at ≤ 256) × ((x : ℕ) → x < at → c ≤ x → hasLetter (self .of) x ≡ false)
 
@@ -17,22 +18,10 @@ abbrev μ-loop : tie.MeasureT-loop
 loop-holds : tie.Need-loop-holds Inv-loop μ-loop
 loop-holds c = (omega arith, omega arith, λ x l m. absurd (omega arith))
 
-cast-has : tie.Need-cast-has Inv-loop μ-loop
-cast-has c = omega arith
-
-has-requires : tie.Need-has-requires Inv-loop μ-loop
-has-requires c κs = tt
-
 returns : tie.Need-returns Inv-loop μ-loop
 returns c =
     let a = c .before .before .before .loop in
     record { low = a .inv .0; high = a .inv .1; hit = λ h. sym (c .before .has .ensures) ∙ c .if1 .taken; gap = a .inv .2 }
-
-add-at : tie.Need-add-at Inv-loop μ-loop
-add-at c = omega arith
-
-loop-less : tie.Need-loop-less Inv-loop μ-loop
-loop-less c = omega arith
 
 loop-again : tie.Need-loop-again Inv-loop μ-loop
 loop-again c =
@@ -51,10 +40,10 @@ first-from-spec =
     Inv-loop
     μ-loop
     loop-holds
-    cast-has
-    has-requires
+    (λ c. omega arith)
+    (λ c κs. tt)
     returns
-    add-at
-    loop-less
+    (λ c. omega arith)
+    (λ c. omega arith)
     loop-again
     returns-2)

@@ -8,29 +8,15 @@ use Rattle.walk_state.proofs.Ranges.{JoinedTo, joined-start, joined-mor
 use Rattle.walk_state.proofs.Letters.with.Statement.{statement}
 use Rattle.walk_state.proofs.Letters.with.Tie as tie
 
+-- the bytes from low up to b are letters now, the others as they were
 abbrev Inv-loop : tie.InvT-loop
 Inv-loop low high self₀ end b₀ self b = (low ≤ b) × (end ≡ high) × (end < 256) × (length (self .of) ≡ 256) × JoinedTo (self₀ .of) low high b (self .of)
 
 abbrev μ-loop : tie.MeasureT-loop
 μ-loop low high self₀ end b₀ self b = 256 - b
 
-wide-requires : tie.Need-wide-requires Inv-loop μ-loop
-wide-requires c κs = tt
-
-wide-requires-2 : tie.Need-wide-requires-2 Inv-loop μ-loop
-wide-requires-2 c κs = tt
-
 loop-holds : tie.Need-loop-holds Inv-loop μ-loop
 loop-holds c = (omega arith, c .before .wide .ensures .0, omega arith, search needs, joined-start _ _ _ _ (c .wide2 .ensures .0))
-
-element-write-self : tie.Need-element-write-self Inv-loop μ-loop
-element-write-self c = omega arith
-
-add-b : tie.Need-add-b Inv-loop μ-loop
-add-b c = omega arith
-
-loop-less : tie.Need-loop-less Inv-loop μ-loop
-loop-less c = omega arith
 
 loop-again : tie.Need-loop-again Inv-loop μ-loop
 loop-again c =
@@ -48,11 +34,11 @@ with-spec =
     (tie.spec
     Inv-loop
     μ-loop
-    wide-requires
-    wide-requires-2
+    (λ c κs. tt)
+    (λ c κs. tt)
     loop-holds
-    element-write-self
-    add-b
-    loop-less
+    (λ c. omega arith)
+    (λ c. omega arith)
+    (λ c. omega arith)
     loop-again
     returns)
