@@ -19,15 +19,15 @@ loop-again : tie.Need-loop-again Inv-loop μ-loop
 unfolding tableOk
 loop-again c =
     let l = c .before .before .before .before in
-    let good : tableOk (l .before .before .args .s .now) (l .loop .t) ≡ true = eq-eqb _ _ (sym (c .before .before .bad-record .ensures .0) ∙ c .if1 .taken ∙ c .before .count-of .ensures .0) in
+    let good : tableOk (l .before .before .args .s .now) (l .loop .t) ≡ true = eq-eqb _ _ (sym (c .before .before .bad-record .ensures) ∙ c .if1 .taken ∙ c .before .count-of .ensures .0) in
     more _ _ _ (l .loop .inv) (omega arith) good
 
 returns : tie.Need-returns Inv-loop μ-loop
 unfolding tableOk
 returns c =
     let l = c .before .before .before .before in
-    let bad : tableOk (l .before .before .args .s .now) (l .loop .t) ≡ false = ne-eqb _ _ (λ e. c .if1 .left (c .before .before .bad-record .ensures .0 ∙ e ∙ sym (c .before .count-of .ensures .0))) in
-    (stop _ _ _ (l .loop .inv) (omega arith) bad, omega arith)
+    let bad : tableOk (l .before .before .args .s .now) (l .loop .t) ≡ false = ne-eqb _ _ (λ e. c .if1 .left (c .before .before .bad-record .ensures ∙ e ∙ sym (c .before .count-of .ensures .0))) in
+    stop _ _ _ (l .loop .inv) (omega arith) bad
 
 pub bad-table-spec : {M : Type 1} → statement M
 bad-table-spec =
@@ -42,4 +42,4 @@ bad-table-spec =
     (λ c. omega arith)
     loop-again
     returns
-    (λ c. (done _ _ _ (c .before .loop .inv) (omega arith), omega arith)))
+    (λ c. done _ _ _ (c .before .loop .inv) (omega arith)))
