@@ -58,7 +58,7 @@ pub fn put_pair(list: &mut [u8], o: usize, x: u8, y: u8) -> usize
 // A number's two bytes at o.
 pub fn put_u16(list: &mut [u8], o: usize, x: usize) -> usize
     requires { ⌜ o + 2 ≤ length (now list) ⌝ }
-    ensures { λ r. ⌜ Put (u16 x) o (now (list .entry)) (now (list .exit)) r ⌝ }
+    ensures { λ r. ⌜ Put (u16 x) o (now (list .entry)) (now (list .exit)) r × (r ≡ o + 2) ⌝ }
 {
     put_pair(list, o, (x % 256) as u8, (x / 256 % 256) as u8)
 }
@@ -66,7 +66,7 @@ pub fn put_u16(list: &mut [u8], o: usize, x: usize) -> usize
 // A number's four bytes at o.
 pub fn put_u32(list: &mut [u8], o: usize, x: usize) -> usize
     requires { ⌜ o + 4 ≤ length (now list) ⌝ }
-    ensures { λ r. ⌜ Put (u32 x) o (now (list .entry)) (now (list .exit)) r ⌝ }
+    ensures { λ r. ⌜ Put (u32 x) o (now (list .entry)) (now (list .exit)) r × (r ≡ o + 4) ⌝ }
 {
     let p = put_u16(list, o, x % 65536);
     put_u16(list, p, x / 65536)

@@ -33,7 +33,7 @@ loop-again : tie.Need-loop-again Inv-loop μ-loop
 unfolding offsetBytes
 loop-again c =
     let l = c .before .before .before .before .before .before .loop in
-    (omega arith, gather-turn (offsetBytes (c .before .before .before .before .before .before .before .before .before .args .offsets .now)) (l .m) (l .inv .1) (c .before .before .put-u32 .ensures), search needs)
+    (omega arith, gather-turn (offsetBytes (c .before .before .before .before .before .before .before .before .before .args .offsets .now)) (l .m) (l .inv .1) (c .before .before .put-u32 .ensures .0), search needs)
 
 returns : tie.Need-returns Inv-loop μ-loop
 returns c =

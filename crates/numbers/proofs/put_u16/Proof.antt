@@ -5,7 +5,7 @@ use Rattle.numbers.proofs.put_u16.Tie as tie
 
 returns : tie.Need-returns
 unfolding u16
-returns c = c .before .before .put-pair .ensures
+returns c = (c .before .before .put-pair .ensures, c .before .before .put-pair .ensures .stop)
 
 pub put-u16-spec : {M : Type 1} → statement M
 put-u16-spec =
