@@ -3,7 +3,7 @@
 use mathlib.Core.Path.{ap, _∙_}
 use denote.Ref.{now}
 use Rattle.paper.specs.Answers.{reportOf}
-use Rattle.paper.specs.Promises.{Solves, Makes, Gates}
+use Rattle.paper.specs.Promises.{says, Solves, Makes, Gates}
 use Rattle.solver.specs.Reported as solver
 use Rattle.solver.proofs.Coincide.{reports}
 use Rattle.solver.proofs.solve.Reads as solve
@@ -17,7 +17,7 @@ use Rattle.gate.proofs.gate.Reads as gate
 
 pub solve-promised : (κs : _) (a : _) (r : _) (e : _) → solve.Learnt κs a r e
     → Solves reportOf (now (a .0)) (a .1 .0) (now (a .1 .1 .0)) (now (a .1 .1 .1 .0)) (solver.reported r) (now (e .1 .1 .0)) (now (e .1 .1 .1 .0))
-solve-promised κs a r e p = record { said = ap solver.reported (p .said) ∙ reports _; cleared = p .cleared; wrote = p .wrote }
+solve-promised κs a r e p = record { said = ap solver.reported (p .said) ∙ reports (says (now (a .0)) (a .1 .0) (now (a .1 .1 .0)) (now (a .1 .1 .1 .0))); cleared = p .cleared; wrote = p .wrote }
 
 pub make-promised : (κs : _) (a : _) (r : _) (e : _) → make.Learnt κs a r e
     → Makes (λ q. q) (now (a .0)) (a .1 .0) (a .1 .1 .0) (now (a .1 .1 .1 .0)) (maker.reported r) (now (e .1 .1 .1 .0))
