@@ -2,12 +2,16 @@
  * The solver, the maker and the gate of Strovimel, as C calls.
  *
  * What every call promises is proved for all arguments: any bytes, any numbers, any lengths. What it owes in return:
- * - each pointer points to as many elements as the length behind it says, and is not null, also where the length is 0;
+ * - each pointer points to as many elements as the length behind it says; a workspace begins at a multiple of 8, as a
+ *   uint64_t does, and bytes begin anywhere;
+ * - no pointer is null. Null with length 0 is tried by the comparison and taken as an empty buffer, but the kit that
+ *   compiles the library does not promise it;
  * - what a call may write (work, out, list of the maker) overlaps nothing else that is lent to it.
  *
- * A call reads and writes nothing but what is lent to it. It asks for no memory, takes some 30 KB of stack (measured)
- * and keeps nothing between calls, so calls on separate buffers may run at the same time. Link libstrovimel_c.a; or,
- * for the gate alone, libstrovimel_gate_c.a; not both.
+ * A call reads and writes nothing but what is lent to it. It asks for no memory and keeps nothing between calls, so calls
+ * on separate buffers may run at the same time. Its stack, measured by `compare/run stack`: the solver 24,664 bytes, the
+ * maker 19,176, the gate 232. The library is x86-64 code. Link libstrovimel_c.a; or, for the gate alone,
+ * libstrovimel_gate_c.a; not both.
  */
 #ifndef STROVIMEL_H
 #define STROVIMEL_H

@@ -2,32 +2,37 @@
 
 use std::env;
 use std::fs;
-use std::io;
+use std::io::{self, Write};
 use std::path::{Path, PathBuf};
-use std::process::Command;
+use std::process::{Command, Stdio};
 use std::time::{Duration, Instant};
 
+use crate::call::{Buffer, Call, Name};
 use crate::everyday;
 use crate::keys::keys;
-use crate::program::{line, Program};
-use crate::sheet::LENGTH_LIMIT;
-use crate::solve::WORK;
+use crate::program::{line, Calls, Second};
+use crate::proved::{message, Proved, RUN};
+use crate::second::sheet::LENGTH_LIMIT;
+use crate::second::solve::{Solved, WORK};
 
 /// Each measure is repeated until so much time has passed.
 const ENOUGH: Duration = Duration::from_millis(200);
-
-/// A program, its name on the command line, and a budget that it can walk.
-pub struct Contender {
-    pub name: &'static str,
-    pub program: &'static dyn Program,
-    pub budget: u64,
-}
+/// The second program walks each letter.
+const SECOND_BUDGET: u64 = 50_000;
 
 /// What is measured, with what is lent to it.
 pub enum Task {
     Solve { sheet: Vec<u8>, work: Vec<u64>, out: Vec<u8> },
     Make { sheet: Vec<u8>, root: u64, list: Vec<u8> },
     Gate { list: Vec<u8>, text: Vec<u8>, work: Vec<u64> },
+}
+
+/// What was answered, for how many things (trials, bytes, or a word), and what one call took.
+struct Measure {
+    answer: String,
+    things: u64,
+    seconds: f64,
+    instructions: Option<u64>,
 }
 
 impl Task {
@@ -42,37 +47,58 @@ impl Task {
         })
     }
 
-    /// What was answered, and for how many things: trials, bytes, or a word.
-    pub fn call(&mut self, contender: &Contender) -> (String, u64) {
-        let program = contender.program;
+    /// The second program's answer, and for how many things.
+    pub fn second(&mut self) -> (String, u64) {
         match self {
             Task::Solve { sheet, work, out } => {
-                let solved = program.solve(sheet, contender.budget, work, out);
+                let solved = Second.solve(sheet, SECOND_BUDGET, work, out);
                 (line(&solved, out), solved.trials)
             }
             Task::Make { sheet, root, list } => {
-                let made = program.make(sheet, *root, everyday::N as u64, list);
+                let made = Second.make(sheet, *root, everyday::N as u64, list);
                 (format!("{} {}", made.number, made.length), made.length.into())
             }
             Task::Gate { list, text, work } => {
-                (program.gate(list, text, everyday::KEY, work).to_string(), 1)
+                (Second.gate(list, text, everyday::KEY, work).to_string(), 1)
+            }
+        }
+    }
+
+    /// The same for the proved library, which passes over alike letters and takes any budget.
+    fn call(&self) -> Call {
+        let read = |name, bytes: &[u8]| Buffer::new(name, bytes.to_vec());
+        let work = Buffer::lent("workspace", 8 * WORK);
+        match self {
+            Task::Solve { sheet, out, .. } => {
+                let buffers = vec![read("sheet", sheet), work, Buffer::lent("output", out.len())];
+                Call::new(Name::Solve, &[("budget", u64::MAX)], buffers)
+            }
+            Task::Make { sheet, root, list } => {
+                let buffers = vec![read("sheet", sheet), Buffer::lent("list", list.len())];
+                let numbers = [("row", *root), ("length", everyday::N as u64)];
+                Call::new(Name::Make, &numbers, buffers)
+            }
+            Task::Gate { list, text, .. } => {
+                let (list, text) = (read("list", list), read("text", text));
+                let buffers = vec![list, text, read("word", everyday::KEY), work];
+                Call::new(Name::Gate, &[], buffers)
             }
         }
     }
 }
 
 /// A table of every sheet of the folder that is no key, then of the everyday filter's list.
-pub fn bench(folder: &Path, contenders: &[Contender]) -> io::Result<()> {
-    let mut tasks = sheets(folder)?;
+pub fn bench(folder: &Path) -> Result<(), String> {
+    let mut tasks = sheets(folder).map_err(|error| error.to_string())?;
     tasks.extend(["make".into(), "gate".into()]);
     println!(
         "{:<20} {:<7} {:>12} {:>10} {:>15} {:>13} {:>10}  answer",
         "task", "program", "trials", "seconds", "trials/second", "instructions", "a trial"
     );
-    for task in tasks {
-        for contender in contenders {
-            measure(&task, contender)?;
-        }
+    for path in tasks {
+        let task = Task::new(&path.to_string_lossy()).map_err(|error| error.to_string())?;
+        tell(&path, "proved", proved(&task)?);
+        tell(&path, "second", second(&path, task));
     }
     println!("make: a list of n = {} over 32 rows, each byte as a trial", everyday::N);
     println!("gate: a word put to that list, each word as a trial");
@@ -83,22 +109,56 @@ pub fn bench(folder: &Path, contenders: &[Contender]) -> io::Result<()> {
 }
 
 /// One row of the table.
-fn measure(path: &Path, contender: &Contender) -> io::Result<()> {
-    let mut task = Task::new(&path.to_string_lossy())?;
-    let (answer, things) = task.call(contender);
-    let seconds = seconds(|| {
-        task.call(contender);
-    });
-    let counted = instructions(path, contender.name);
-    let total = counted.map_or("-".into(), |count| count.to_string());
-    let each = counted.map_or("-".into(), |count| format!("{:.1}", count as f64 / things as f64));
+fn tell(path: &Path, program: &str, measure: Measure) {
+    let Measure { answer, things, seconds, instructions } = measure;
+    let total = instructions.map_or("-".into(), |count| count.to_string());
+    let each = instructions.map(|count| count as f64 / things as f64);
     println!(
-        "{:<20} {:<7} {things:>12} {seconds:>10.6} {:>15.0} {total:>13} {each:>10}  {answer}",
+        "{:<20} {program:<7} {things:>12} {seconds:>10.6} {:>15.0} {total:>13} {:>10}  {answer}",
         path.file_stem().unwrap_or_default().to_string_lossy(),
-        contender.name,
         things as f64 / seconds,
+        each.map_or("-".into(), |each| format!("{each:.1}")),
     );
-    Ok(())
+}
+
+fn proved(task: &Task) -> Result<Measure, String> {
+    let call = task.call();
+    let mut proved = Proved::start()?;
+    let first = proved.repeat(&call, 2)?;
+    let times = 2 * ENOUGH.as_nanos() as u64 / first.nanoseconds.max(1);
+    let times = times.clamp(1, 1_000_000) + 1;
+    let timed = proved.repeat(&call, times)?;
+    let numbers = &first.reply.answer;
+    let (answer, things) = match call.name {
+        Name::Solve => {
+            let (number, length) = (numbers[0] as u32, numbers[1] as u32);
+            let solved = Solved { number, length, trials: numbers[2] };
+            (line(&solved, &first.reply.buffers[2]), solved.trials)
+        }
+        Name::Make => (format!("{} {}", numbers[0], numbers[1]), numbers[1]),
+        _ => (numbers[0].to_string(), 1),
+    };
+    let seconds = timed.nanoseconds as f64 / 1e9 / times as f64;
+    // A second call beside the first one: lending and telling are in both.
+    let one = |times: u64| counted(&[RUN[1]], &message(&call, times));
+    let instructions = one(2).zip(one(1)).and_then(|(two, one)| two.checked_sub(one));
+    Ok(Measure { answer, things, seconds, instructions })
+}
+
+fn second(path: &Path, mut task: Task) -> Measure {
+    let (answer, things) = task.second();
+    let start = Instant::now();
+    let mut calls = 0;
+    while calls == 0 || start.elapsed() < ENOUGH {
+        task.second();
+        calls += 1;
+    }
+    let seconds = start.elapsed().as_secs_f64() / f64::from(calls);
+    let (path, here) = (path.to_string_lossy(), env::current_exe().unwrap_or_default());
+    let here = here.to_string_lossy();
+    let run = |times: &str| counted(&[&*here, "call", &*path, times], &[]);
+    let instructions = run("1").zip(run("0")).and_then(|(one, none)| one.checked_sub(none));
+    Measure { answer, things, seconds, instructions }
 }
 
 /// The sheets of the folder but for the keys, by name.
@@ -115,32 +175,19 @@ fn sheets(folder: &Path) -> io::Result<Vec<PathBuf>> {
     Ok(paths)
 }
 
-/// Seconds of one call, over as many as fit.
-fn seconds(mut call: impl FnMut()) -> f64 {
-    let start = Instant::now();
-    let mut calls = 0;
-    while calls == 0 || start.elapsed() < ENOUGH {
-        call();
-        calls += 1;
-    }
-    start.elapsed().as_secs_f64() / f64::from(calls)
-}
-
-/// Instructions of one call: this program under valgrind with the call made once, less the same
-/// without it.
-fn instructions(task: &Path, program: &str) -> Option<u64> {
-    let run = |times: &str| {
-        let output = Command::new("valgrind")
-            .args(["--tool=callgrind", "--callgrind-out-file=/dev/null"])
-            .arg(env::current_exe().ok()?)
-            .args(["call", program])
-            .arg(task)
-            .arg(times)
-            .output()
-            .ok()?;
-        let said = String::from_utf8_lossy(&output.stderr).into_owned();
-        let (_, count) = said.split_once("Collected :")?;
-        count.split_whitespace().next()?.parse::<u64>().ok()
-    };
-    run("1")?.checked_sub(run("0")?)
+/// Instructions of a whole run of the program on that input.
+fn counted(program: &[&str], input: &[u8]) -> Option<u64> {
+    let mut process = Command::new("valgrind")
+        .args(["--tool=callgrind", "--callgrind-out-file=/dev/null"])
+        .args(program)
+        .stdin(Stdio::piped())
+        .stdout(Stdio::null())
+        .stderr(Stdio::piped())
+        .spawn()
+        .ok()?;
+    process.stdin.take()?.write_all(input).ok()?;
+    let output = process.wait_with_output().ok()?;
+    let said = String::from_utf8_lossy(&output.stderr).into_owned();
+    let (_, count) = said.split_once("Collected :")?;
+    count.split_whitespace().next()?.parse().ok()
 }

@@ -3,9 +3,9 @@
 
 use std::collections::BTreeSet;
 
-use crate::gate::{Choice, CutList};
-use crate::sheet::{Assertion, Claim, Part, Row, Run, Sheet};
-use crate::solve::Walked;
+use crate::second::gate::{Choice, CutList};
+use crate::second::sheet::{Assertion, Claim, Part, Row, Run, Sheet};
+use crate::second::solve::Walked;
 
 /// The first word, in the walk's order, that meets every assertion.
 pub fn first_word(sheet: &Sheet) -> Option<Vec<u8>> {

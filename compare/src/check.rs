@@ -1,18 +1,19 @@
 //! A run of generated cases through the comparison, with arguments at every interesting edge.
 
+use std::ops::Range;
 use std::time::{Duration, Instant};
 
-use crate::alike::{self, Passed};
 use crate::compare::{Comparison, Difference, GateCall, MakeCall, SolveCall};
-use crate::gate::CutList;
+use crate::count::{count, Passed};
 use crate::gen;
 use crate::gen::damage::with_byte_changed;
 use crate::gen::lists;
-use crate::make::Plan;
 use crate::program::Program;
+use crate::second::gate::CutList;
+use crate::second::make::Plan;
+use crate::second::sheet::{Assertion, Claim, Sheet, LENGTH_LIMIT};
+use crate::second::solve::{walk, Walked, WORK};
 use crate::seed::Seeded;
-use crate::sheet::{Assertion, Claim, Sheet, LENGTH_LIMIT};
-use crate::solve::{walk, Walked, WORK};
 use crate::tally::Tally;
 
 /// A list longer than this is asked for only with too little space.
@@ -28,33 +29,52 @@ pub struct Report {
     pub tally: Tally,
 }
 
-/// Runs up to `count` cases, and none begun after so many seconds.
+/// Runs the cases of that seed, and none begun after so many seconds.
 pub fn check(
-    program: &dyn Program,
+    program: &mut dyn Program,
     seed: u64,
-    count: u64,
+    cases: Range<u64>,
     seconds: Option<u64>,
 ) -> Result<Report, Difference> {
-    let end = seconds.map(|seconds| Instant::now() + Duration::from_secs(seconds));
-    let mut comparison = Comparison { program, tally: Tally::default() };
-    let mut cases = 0;
-    while cases < count && end.is_none_or(|end| Instant::now() < end) {
-        let mut run = Case { s: Seeded::new(seed, cases), comparison: &mut comparison };
-        let result = if run.s.once_in(6) { run.foreign_list() } else { run.sheets() };
-        result.map_err(|Difference(text)| Difference(format!("case {cases}\n{text}")))?;
-        cases += 1;
-    }
-    Ok(Report { cases, tally: comparison.tally })
+    run(program, seed, cases, seconds, |case| {
+        if case.s.once_in(6) {
+            case.foreign_list()
+        } else {
+            case.sheets()
+        }
+    })
 }
 
 /// Compares counts that no plain walk can reach; for a program that takes alike letters together.
-pub fn check_alike(program: &dyn Program, seed: u64, count: u64) -> Result<Report, Difference> {
-    let mut comparison = Comparison { program, tally: Tally::default() };
-    for case in 0..count {
-        let mut run = Case { s: Seeded::new(seed, case), comparison: &mut comparison };
-        run.deep_alike().map_err(|Difference(text)| Difference(format!("case {case}\n{text}")))?;
+pub fn check_alike(
+    program: &mut dyn Program,
+    seed: u64,
+    cases: Range<u64>,
+    seconds: Option<u64>,
+) -> Result<Report, Difference> {
+    run(program, seed, cases, seconds, |case| case.deep_alike())
+}
+
+fn run(
+    program: &mut dyn Program,
+    seed: u64,
+    cases: Range<u64>,
+    seconds: Option<u64>,
+    each: impl Fn(&mut Case) -> Result<(), Difference>,
+) -> Result<Report, Difference> {
+    let end = seconds.map(|seconds| Instant::now() + Duration::from_secs(seconds));
+    let mut comparison = Comparison::new(program);
+    let mut done = 0;
+    for number in cases {
+        if end.is_some_and(|end| Instant::now() >= end) {
+            break;
+        }
+        comparison.begin(number);
+        each(&mut Case { s: Seeded::new(seed, number), comparison: &mut comparison })?;
+        done += 1;
     }
-    Ok(Report { cases: count, tally: comparison.tally })
+    comparison.settle()?;
+    Ok(Report { cases: done, tally: comparison.tally })
 }
 
 /// One case of a run.
@@ -263,7 +283,7 @@ impl Case<'_, '_> {
     fn deep_alike(&mut self) -> Result<(), Difference> {
         let bytes = gen::alike::deep_alike(&mut self.s).bytes();
         let sheet = Sheet::check(&bytes).expect("a valid sheet");
-        let Some(counted) = alike::count(&sheet, 2_000) else {
+        let Some(counted) = count(&sheet, 2_000) else {
             self.comparison.tally.sort("too long to count");
             return Ok(());
         };

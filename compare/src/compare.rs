@@ -1,14 +1,20 @@
-//! One call made to both programs: their answers and every byte of every buffer are compared.
+//! Calls made to both programs: their answers and every byte of every buffer are compared. Many
+//! calls are on the way to the other program at once.
 
-use std::fmt::Debug;
+use std::collections::VecDeque;
 
-use crate::gate::gate;
-use crate::lent::Lent;
-use crate::make::make;
+use crate::call::{bytes, words, Buffer, Call, Name, Place, Reply};
 use crate::program::{hex, Program};
-use crate::sheet::Sheet;
-use crate::solve::{solve_by, Walked};
+use crate::second::gate::gate;
+use crate::second::make::make;
+use crate::second::sheet::Sheet;
+use crate::second::solve::{solve_by, Walked};
+use crate::seed::Seeded;
 use crate::tally::Tally;
+
+/// So many calls and bytes of theirs are on the way at most.
+const CALLS: usize = 64;
+const BYTES: usize = 1 << 25;
 
 /// What was asked and how the two programs differ.
 #[derive(Debug)]
@@ -16,8 +22,19 @@ pub struct Difference(pub String);
 
 /// A program under comparison with the second one, and what has been met so far.
 pub struct Comparison<'a> {
-    pub program: &'a dyn Program,
+    program: &'a mut dyn Program,
     pub tally: Tally,
+    case: u64,
+    places: Seeded,
+    waiting: VecDeque<Waiting>,
+    waiting_bytes: usize,
+}
+
+/// A call on the way.
+struct Waiting {
+    case: u64,
+    call: Call,
+    expected: Reply,
 }
 
 /// What the solver is lent besides the sheet: words of workspace, bytes of output.
@@ -45,7 +62,18 @@ pub struct GateCall<'a> {
     pub work: usize,
 }
 
-impl Comparison<'_> {
+impl<'a> Comparison<'a> {
+    pub fn new(program: &'a mut dyn Program) -> Comparison<'a> {
+        let (tally, waiting) = (Tally::default(), VecDeque::new());
+        Comparison { program, tally, case: 0, places: Seeded::new(0, 0), waiting, waiting_bytes: 0 }
+    }
+
+    /// The calls from here on are of this case; they are placed the same whenever it is repeated.
+    pub fn begin(&mut self, case: u64) {
+        self.case = case;
+        self.places = Seeded::new(0, case);
+    }
+
     /// The second program answers by the given walk, so that it need not walk for each budget.
     pub fn solve(
         &mut self,
@@ -53,107 +81,102 @@ impl Comparison<'_> {
         call: SolveCall,
         walk: impl FnOnce(&Sheet, u64) -> Option<Walked>,
     ) -> Result<(), Difference> {
-        let (lent_work, lent_out) = (Lent::words(call.work), Lent::bytes(call.out));
-        let (mut work, mut out) = (lent_work.clone(), lent_out.clone());
-        let second = solve_by(walk, sheet, call.budget, work.lend(), out.lend());
+        let lent = [self.lent("workspace", 8 * call.work), self.lent("output", call.out)];
+        let (mut work, mut out) = (words(&lent[0].bytes), lent[1].bytes.clone());
+        let second = solve_by(walk, sheet, call.budget, &mut work, &mut out);
         self.tally.answer("solve", second.number);
 
-        let (mut other_work, mut other_out) = (lent_work.clone(), lent_out.clone());
-        let read = sheet.to_vec();
-        let other = self.program.solve(&read, call.budget, other_work.lend(), other_out.lend());
-
-        let mut faults = Faults::of(&second, &other);
-        faults.changed("workspace word", &work, &other_work);
-        faults.changed("output byte", &out, &other_out);
-        faults.written("sheet", sheet, &read);
-        if other.number >= 10 {
-            faults.changed("workspace word of a refused call", &lent_work, &other_work);
-            faults.changed("output byte of a refused call", &lent_out, &other_out);
-        }
-        faults.report(|| {
-            let words = format!("{} and {}", hex(out.content()), hex(other_out.content()));
-            format!("sheet {}\n{call:?}\noutputs {words}", hex(sheet))
-        })
+        let buffers = vec![sheet.to_vec(), bytes(&work), out];
+        let expected = Reply { answer: second.numbers(), buffers };
+        let [work, out] = lent;
+        let buffers = vec![self.read("sheet", sheet), work, out];
+        self.put(Call::new(Name::Solve, &[("budget", call.budget)], buffers), expected)
     }
 
     /// The list, if one was written.
     pub fn make(&mut self, sheet: &[u8], call: MakeCall) -> Result<Option<Vec<u8>>, Difference> {
-        let lent = Lent::bytes(call.space);
-        let mut list = lent.clone();
-        let second = make(sheet, call.row, call.length, list.lend());
+        let lent = self.lent("list", call.space);
+        let mut list = lent.bytes.clone();
+        let second = make(sheet, call.row, call.length, &mut list);
         self.tally.answer("make", second.number);
 
-        let mut other_list = lent.clone();
-        let read = sheet.to_vec();
-        let other = self.program.make(&read, call.row, call.length, other_list.lend());
-
-        let mut faults = Faults::of(&second, &other);
-        faults.changed("list byte", &list, &other_list);
-        faults.written("sheet", sheet, &read);
-        if other.number >= 10 {
-            faults.changed("list byte of a refused call", &lent, &other_list);
-        }
-        faults.report(|| format!("sheet {}\n{call:?}", hex(sheet)))?;
-        let written = list.content()[..second.length as usize].to_vec();
-        Ok((second.number == 0).then_some(written))
+        let written = (second.number == 0).then(|| list[..second.length as usize].to_vec());
+        let expected = Reply { answer: second.numbers(), buffers: vec![sheet.to_vec(), list] };
+        let numbers = [("row", call.row), ("length", call.length)];
+        let buffers = vec![self.read("sheet", sheet), lent];
+        self.put(Call::new(Name::Make, &numbers, buffers), expected)?;
+        Ok(written)
     }
 
     pub fn gate(&mut self, call: GateCall) -> Result<(), Difference> {
         let GateCall { list, text, word, work } = call;
-        let lent = Lent::words(work);
-        let mut work = lent.clone();
-        let second = gate(list, text, word, work.lend());
+        let lent = self.lent("workspace", 8 * work);
+        let mut work = words(&lent.bytes);
+        let second = gate(list, text, word, &mut work);
         self.tally.answer("gate", second);
 
-        let mut other_work = lent.clone();
-        let read = (list.to_vec(), text.to_vec(), word.to_vec());
-        let other = self.program.gate(&read.0, &read.1, &read.2, other_work.lend());
+        let buffers = vec![list.to_vec(), text.to_vec(), word.to_vec(), bytes(&work)];
+        let expected = Reply { answer: vec![second.into()], buffers };
+        let (list, text) = (self.read("list", list), self.read("text", text));
+        let buffers = vec![list, text, self.read("word", word), lent];
+        self.put(Call::new(Name::Gate, &[], buffers), expected)
+    }
 
-        let mut faults = Faults::of(&second, &other);
-        faults.changed("workspace word", &work, &other_work);
-        faults.written("list", list, &read.0);
-        faults.written("text", text, &read.1);
-        faults.written("word", word, &read.2);
-        if other >= 10 {
-            faults.changed("workspace word of a refused call", &lent, &other_work);
+    fn read(&mut self, name: &'static str, bytes: &[u8]) -> Buffer {
+        let place = if self.places.once_in(6) { Place::First } else { Place::Last };
+        Buffer { name, bytes: bytes.to_vec(), place }
+    }
+
+    fn lent(&mut self, name: &'static str, length: usize) -> Buffer {
+        let places = [Place::Last, Place::Last, Place::WordBefore, Place::First];
+        Buffer { place: self.places.pick(&places), ..Buffer::lent(name, length) }
+    }
+
+    /// Puts a call of any sort to the other program.
+    pub fn put(&mut self, call: Call, expected: Reply) -> Result<(), Difference> {
+        let case = self.case;
+        self.program.put(&call).map_err(Difference)?;
+        self.waiting_bytes += call.bytes();
+        self.waiting.push_back(Waiting { case, call, expected });
+        while self.waiting.len() > CALLS || self.waiting_bytes > BYTES {
+            self.settle_one()?;
         }
-        faults.report(|| {
-            let lent = format!("text {}\nword {}\nworkspace {}", hex(text), hex(word), call.work);
-            format!("gate\nlist {}\n{lent}", hex(list))
-        })
-    }
-}
-
-/// The two answers to one call, and the ways in which the programs differ on it.
-struct Faults {
-    answers: String,
-    found: Vec<String>,
-}
-
-impl Faults {
-    fn of<T: PartialEq + Debug>(second: &T, other: &T) -> Faults {
-        let answers = format!("second program {second:?}\nproved library {other:?}");
-        let unequal = (second != other).then(|| "the answers differ".to_string());
-        Faults { answers, found: unequal.into_iter().collect() }
+        Ok(())
     }
 
-    fn changed<T: PartialEq>(&mut self, what: &str, second: &Lent<T>, other: &Lent<T>) {
-        if let Some(at) = second.difference(other) {
-            self.found.push(format!("{what} {at} differs"));
+    /// Waits for all that is on the way.
+    pub fn settle(&mut self) -> Result<(), Difference> {
+        while !self.waiting.is_empty() {
+            self.settle_one()?;
         }
+        Ok(())
     }
 
-    /// What is only read must stay as it was lent.
-    fn written(&mut self, what: &str, lent: &[u8], read: &[u8]) {
-        if lent != read {
-            self.found.push(format!("the {what} was written to"));
-        }
-    }
-
-    fn report(self, call: impl FnOnce() -> String) -> Result<(), Difference> {
-        if self.found.is_empty() {
+    fn settle_one(&mut self) -> Result<(), Difference> {
+        let Some(Waiting { case, call, expected }) = self.waiting.pop_front() else {
             return Ok(());
-        }
-        Err(Difference(format!("{}\n{}\n{}", call(), self.answers, self.found.join("\n"))))
+        };
+        self.waiting_bytes -= call.bytes();
+        let faults = match self.program.reply(&call) {
+            Ok(reply) if reply == expected => return Ok(()),
+            Ok(reply) => faults(&call, &expected, &reply),
+            Err(ended) => ended,
+        };
+        Err(Difference(format!("case {case}\n{call}\n{faults}")))
     }
+}
+
+/// How a reply differs from what was expected.
+fn faults(call: &Call, expected: &Reply, reply: &Reply) -> String {
+    let (second, other) = (&expected.answer, &reply.answer);
+    let mut faults = vec![format!("second program {second:?}\nproved library {other:?}")];
+    let buffers = call.buffers.iter().zip(expected.buffers.iter().zip(&reply.buffers));
+    for (buffer, (second, other)) in buffers {
+        if let Some(at) = second.iter().zip(other).position(|(one, other)| one != other) {
+            let near = at..(at + 16).min(second.len());
+            let (one, other) = (hex(&second[near.clone()]), hex(&other[near]));
+            faults.push(format!("{} differs from byte {at}: {one} and {other}", buffer.name));
+        }
+    }
+    faults.join("\n")
 }

@@ -1,6 +1,6 @@
 //! The writer of sheets: tables end to end, trailer last.
 
-use crate::sheet::{MARK, TABLES};
+use crate::second::sheet::{MARK, TABLES};
 
 /// A row or a part: kind, a, b.
 pub type Record = (u8, u16, u16);

@@ -1,7 +1,7 @@
 //! An everyday filter of 32 rows: branch codes, and groups of letters and digits behind them.
 
 use crate::draft::Draft;
-use crate::make::make;
+use crate::second::make::make;
 
 /// The length of the list's words.
 pub const N: usize = 20;

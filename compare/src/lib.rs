@@ -1,24 +1,20 @@
 //! The second program, written from the paper alone, and its comparison with the proved library.
 
-pub mod alike;
+pub mod second;
+
 pub mod bench;
 pub mod brute;
+pub mod call;
 pub mod check;
 pub mod compare;
-pub mod derive;
+pub mod count;
 pub mod draft;
 pub mod everyday;
-#[cfg(feature = "proved")]
-pub mod ffi;
-pub mod gate;
 pub mod gen;
+pub mod guards;
 pub mod keys;
-pub mod lent;
-pub mod make;
-pub mod open;
 pub mod program;
+pub mod proved;
 pub mod seed;
 pub mod selfcheck;
-pub mod sheet;
-pub mod solve;
 pub mod tally;

@@ -3,38 +3,48 @@
 use std::env;
 use std::fs;
 use std::io::{self, Read};
+use std::ops::Range;
 use std::path::Path;
 use std::process::ExitCode;
 
-use compare::bench::{self, Contender, Task};
-use compare::check::{self, Report};
+use compare::bench::{bench, Task};
+use compare::check::{check, check_alike, Report};
 use compare::compare::Difference;
+use compare::guards::guards;
 use compare::keys::{keys, BUDGET};
-use compare::program::{line, Program, Second};
+use compare::program::line;
+use compare::proved::Proved;
+use compare::second::sheet::{LENGTH_LIMIT, SHEET_LIMIT};
+use compare::second::solve::{solve, WORK};
 use compare::selfcheck::selfcheck;
-use compare::sheet::{LENGTH_LIMIT, SHEET_LIMIT};
-use compare::solve::{solve, WORK};
 
 const USAGE: &str =
-    "compare check SEED COUNT [SECONDS]   the proved library against the second program
-compare alike SEED COUNT             the same on counts past every plain walk
+    "of the proved library, from the top of the repository, with target/calls built:
+compare check SEED COUNT [SECONDS]   the proved library against the second program
+compare alike SEED COUNT [SECONDS]   the same on counts past every plain walk
+compare case check|alike SEED CASE   one case of these again
+compare guards                       touches beside a buffer, each to be seen
+compare bench FOLDER                 seconds and instructions: sheets of the folder, maker, gate
+of the second program alone:
 compare self SEED COUNT              the second program against brute force
 compare solve                        one line for the sheet on standard input
-compare bench FOLDER                 seconds and instructions: sheets of the folder, maker, gate
-compare call PROGRAM TASK TIMES      calls proved or second: SHEET, make or gate, as bench does
+compare call TASK TIMES              calls it: SHEET, make or gate, as bench does
 compare write-keys FOLDER            the sheets of the keys, k1.sheet to k11.sheet";
 
 fn main() -> ExitCode {
     let arguments: Vec<String> = env::args().skip(1).collect();
     let words: Vec<&str> = arguments.iter().map(String::as_str).collect();
     let result = match words[..] {
-        ["check", seed, count] => run_check(seed, count, None),
-        ["check", seed, count, seconds] => run_check(seed, count, Some(seconds)),
-        ["alike", seed, count] => run_alike(seed, count),
+        [sort @ ("check" | "alike"), seed, count] => run_cases(sort, seed, count, None),
+        [sort @ ("check" | "alike"), seed, count, seconds] => {
+            run_cases(sort, seed, count, Some(seconds))
+        }
+        ["case", sort @ ("check" | "alike"), seed, case] => run_case(sort, seed, case),
+        ["guards"] => run_guards(),
+        ["bench", folder] => bench(Path::new(folder)),
         ["self", seed, count] => run_self(seed, count),
         ["solve"] => run_solve(),
-        ["bench", folder] => run_bench(folder),
-        ["call", program, task, times] => run_calls(program, task, times),
+        ["call", task, times] => run_calls(task, times),
         ["write-keys", folder] => write_keys(folder),
         _ => Err(USAGE.to_string()),
     };
@@ -47,35 +57,33 @@ fn main() -> ExitCode {
     }
 }
 
-/// The proved library, where it is linked.
-fn proved() -> Option<&'static dyn Program> {
-    #[cfg(feature = "proved")]
-    return Some(&compare::ffi::Proved);
-    #[cfg(not(feature = "proved"))]
-    None
-}
-
-fn proved_or_refuse() -> Result<&'static dyn Program, String> {
-    proved().ok_or_else(|| "built without the feature `proved`".to_string())
-}
-
 fn number(word: &str) -> Result<u64, String> {
     word.parse().map_err(|_| format!("not a number: {word}\n{USAGE}"))
 }
 
-fn run_check(seed: &str, count: &str, seconds: Option<&str>) -> Result<(), String> {
-    let seconds = seconds.map(number).transpose()?;
-    report(check::check(proved_or_refuse()?, number(seed)?, number(count)?, seconds))
+fn run_cases(sort: &str, seed: &str, count: &str, seconds: Option<&str>) -> Result<(), String> {
+    compared(sort, number(seed)?, 0..number(count)?, seconds.map(number).transpose()?)
 }
 
-fn run_alike(seed: &str, count: &str) -> Result<(), String> {
-    report(check::check_alike(proved_or_refuse()?, number(seed)?, number(count)?))
+fn run_case(sort: &str, seed: &str, case: &str) -> Result<(), String> {
+    let case = number(case)?;
+    compared(sort, number(seed)?, case..case + 1, None)
+}
+
+fn compared(sort: &str, seed: u64, cases: Range<u64>, seconds: Option<u64>) -> Result<(), String> {
+    let compared = if sort == "check" { check } else { check_alike };
+    report(compared(&mut Proved::start()?, seed, cases, seconds))
 }
 
 fn report(result: Result<Report, Difference>) -> Result<(), String> {
     let Report { cases, tally } = result.map_err(|Difference(text)| text)?;
     print!("{tally}");
-    println!("compare: {cases} cases, 0 differences");
+    println!("compare: {cases} cases, {} calls, 0 differences", tally.calls());
+    Ok(())
+}
+
+fn run_guards() -> Result<(), String> {
+    println!("compare: {} touches, each beside a buffer seen", guards()?);
     Ok(())
 }
 
@@ -97,24 +105,10 @@ fn run_solve() -> Result<(), String> {
     Ok(())
 }
 
-/// The proved program passes over alike letters and takes any budget; the second one walks each.
-fn contenders() -> Vec<Contender> {
-    let proved = proved().map(|program| Contender { name: "proved", program, budget: u64::MAX });
-    let second = Contender { name: "second", program: &Second, budget: 50_000 };
-    proved.into_iter().chain([second]).collect()
-}
-
-fn run_bench(folder: &str) -> Result<(), String> {
-    bench::bench(Path::new(folder), &contenders()).map_err(|error| error.to_string())
-}
-
-fn run_calls(program: &str, task: &str, times: &str) -> Result<(), String> {
-    let contenders = contenders();
-    let contender = contenders.iter().find(|contender| contender.name == program);
-    let contender = contender.ok_or_else(|| format!("no such program: {program}"))?;
+fn run_calls(task: &str, times: &str) -> Result<(), String> {
     let mut task = Task::new(task).map_err(|error| error.to_string())?;
     for _ in 0..number(times)? {
-        task.call(contender);
+        task.second();
     }
     Ok(())
 }

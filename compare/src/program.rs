@@ -1,10 +1,13 @@
 //! The three calls, so that any two programs that have them can be compared.
 
-use crate::gate::gate;
-use crate::make::{make, Made};
-use crate::solve::{solve, Solved};
+use std::collections::VecDeque;
 
-pub trait Program {
+use crate::call::{bytes, words, Call, Name, Reply};
+use crate::second::gate::gate;
+use crate::second::make::{make, Made};
+use crate::second::solve::{solve, Solved};
+
+pub trait Calls {
     fn solve(&self, sheet: &[u8], budget: u64, work: &mut [u64], out: &mut [u8]) -> Solved;
     fn make(&self, sheet: &[u8], row: u64, length: u64, list: &mut [u8]) -> Made;
     fn gate(&self, list: &[u8], text: &[u8], word: &[u8], work: &mut [u64]) -> u32;
@@ -13,7 +16,7 @@ pub trait Program {
 /// The program written here.
 pub struct Second;
 
-impl Program for Second {
+impl Calls for Second {
     fn solve(&self, sheet: &[u8], budget: u64, work: &mut [u64], out: &mut [u8]) -> Solved {
         solve(sheet, budget, work, out)
     }
@@ -24,6 +27,70 @@ impl Program for Second {
 
     fn gate(&self, list: &[u8], text: &[u8], word: &[u8], work: &mut [u64]) -> u32 {
         gate(list, text, word, work)
+    }
+}
+
+/// A program under comparison: it is put calls, and gives their replies in the same order, each when
+/// it has it. An error says why it gives no more.
+pub trait Program {
+    fn put(&mut self, call: &Call) -> Result<(), String>;
+    fn reply(&mut self, call: &Call) -> Result<Reply, String>;
+}
+
+/// A program in this process.
+pub struct Here<C> {
+    calls: C,
+    replies: VecDeque<Reply>,
+}
+
+impl<C> Here<C> {
+    pub fn new(calls: C) -> Here<C> {
+        Here { calls, replies: VecDeque::new() }
+    }
+}
+
+impl<C: Calls> Program for Here<C> {
+    fn put(&mut self, call: &Call) -> Result<(), String> {
+        let mut buffers: Vec<Vec<u8>> = call.buffers.iter().map(|b| b.bytes.clone()).collect();
+        let numbers: Vec<u64> = call.numbers.iter().map(|&(_, number)| number).collect();
+        let answer = match (call.name, &mut buffers[..]) {
+            (Name::Solve, [sheet, work, out]) => {
+                let mut lent = words(work);
+                let solved = self.calls.solve(sheet, numbers[0], &mut lent, out);
+                *work = bytes(&lent);
+                solved.numbers()
+            }
+            (Name::Make, [sheet, list]) => {
+                self.calls.make(sheet, numbers[0], numbers[1], list).numbers()
+            }
+            (Name::Gate, [list, text, word, work]) => {
+                let mut lent = words(work);
+                let number = self.calls.gate(list, text, word, &mut lent);
+                *work = bytes(&lent);
+                vec![number.into()]
+            }
+            _ => return Err(format!("no such call here: {:?}", call.name)),
+        };
+        self.replies.push_back(Reply { answer, buffers });
+        Ok(())
+    }
+
+    fn reply(&mut self, _: &Call) -> Result<Reply, String> {
+        self.replies.pop_front().ok_or_else(|| "no call was put".to_string())
+    }
+}
+
+impl Solved {
+    /// Its fields, as they come back from a call.
+    pub fn numbers(&self) -> Vec<u64> {
+        vec![self.number.into(), self.length.into(), self.trials]
+    }
+}
+
+impl Made {
+    /// Its fields, as they come back from a call.
+    pub fn numbers(&self) -> Vec<u64> {
+        vec![self.number.into(), self.length.into()]
     }
 }
 

@@ -2,15 +2,15 @@
 
 use std::fmt::{Debug, Display};
 
-use crate::derive::derives_word;
-use crate::gate::{gate, CutList};
 use crate::gen::{filters, lists, small};
-use crate::make::{make, Plan};
 use crate::program::hex;
+use crate::second::derive::derives_word;
+use crate::second::gate::{gate, CutList};
+use crate::second::make::{make, Plan};
+use crate::second::sheet::{Row, Sheet};
+use crate::second::solve::{solve, walk, Solved, Walked, WORK};
 use crate::seed::Seeded;
-use crate::sheet::{Row, Sheet};
-use crate::solve::{solve, walk, Solved, Walked, WORK};
-use crate::{alike, brute};
+use crate::{brute, count};
 
 const BUDGET: u64 = 5_000;
 /// Words of the longest length that brute force tries at most.
@@ -27,7 +27,7 @@ pub struct Agreed {
     pub words: u64,
     pub walks: u64,
     pub found: u64,
-    pub alike: u64,
+    pub counted: u64,
     pub derived: u64,
     pub not_derived: u64,
     pub lists: u64,
@@ -37,7 +37,7 @@ impl Display for Agreed {
     fn fmt(&self, f: &mut std::fmt::Formatter<'_>) -> std::fmt::Result {
         writeln!(f, "first words by every word tried: {}, found {}", self.words, self.found)?;
         writeln!(f, "walks by every filling tried: {}", self.walks)?;
-        writeln!(f, "walks by alike letters: {}", self.alike)?;
+        writeln!(f, "walks counted: {}", self.counted)?;
         writeln!(f, "words derived: {}, not derived: {}", self.derived, self.not_derived)?;
         writeln!(f, "words at foreign lists: {}", self.lists)
     }
@@ -88,10 +88,10 @@ fn walks(bytes: &[u8], sheet: &Sheet, agreed: &mut Agreed) -> Result<(), String>
             agreed.walks += 1;
         }
     }
-    if let Some(counted) = alike::count(sheet, BUDGET) {
-        same("alike trials", &counted.trials, &(walked.trials as u128))?;
-        same("alike word", &counted.found, &walked.found)?;
-        agreed.alike += 1;
+    if let Some(counted) = count::count(sheet, BUDGET) {
+        same("counted trials", &counted.trials, &(walked.trials as u128))?;
+        same("counted word", &counted.found, &walked.found)?;
+        agreed.counted += 1;
     }
     Ok(())
 }

@@ -32,6 +32,11 @@ impl Tally {
         self.answers.get(&(call, number)).copied().unwrap_or(0)
     }
 
+    /// How many calls were made.
+    pub fn calls(&self) -> u64 {
+        self.answers.values().sum()
+    }
+
     /// The answers that were never met.
     pub fn unmet(&self) -> Vec<(&'static str, u32)> {
         let mut unmet = Vec::new();

@@ -1,13 +1,13 @@
 //! The second program against brute force, and the comparison itself: it must pass a program that
 //! answers the same and see each way of differing.
 
-use compare::alike;
 use compare::check::{check, check_alike};
-use compare::make::Made;
-use compare::program::{Program, Second};
+use compare::count::count;
+use compare::program::{Calls, Here, Second};
+use compare::second::make::Made;
+use compare::second::sheet::Sheet;
+use compare::second::solve::{solve_by, Solved, Walked, WORK};
 use compare::selfcheck::selfcheck;
-use compare::sheet::Sheet;
-use compare::solve::{solve_by, Solved, Walked, WORK};
 
 #[test]
 fn second_program_agrees_with_brute_force() {
@@ -17,7 +17,7 @@ fn second_program_agrees_with_brute_force() {
 
 #[test]
 fn second_program_agrees_with_itself_and_meets_every_answer() {
-    let report = check(&Second, 7, 400, None).expect("no difference");
+    let report = check(&mut Here::new(Second), 7, 0..400, None).expect("no difference");
     assert_eq!(report.cases, 400);
     assert_eq!(report.tally.unmet(), []);
 }
@@ -36,7 +36,7 @@ enum Wrong {
     GateWorkspace,
 }
 
-impl Program for Wrong {
+impl Calls for Wrong {
     fn solve(&self, sheet: &[u8], budget: u64, work: &mut [u64], out: &mut [u8]) -> Solved {
         let mut solved = Second.solve(sheet, budget, work, out);
         let after = solved.length as usize;
@@ -89,17 +89,17 @@ fn every_way_of_differing_is_seen() {
         Wrong::GateWorkspace,
     ];
     for (i, wrong) in wrongs.iter().enumerate() {
-        assert!(check(wrong, 7, 60, None).is_err(), "wrong program {i}");
+        assert!(check(&mut Here::new(*wrong), 7, 0..60, None).is_err(), "wrong program {i}");
     }
 }
 
 /// Counts alike letters together, and so many trials of every count too few.
 struct Counting(u64);
 
-impl Program for Counting {
+impl Calls for Counting {
     fn solve(&self, sheet: &[u8], budget: u64, work: &mut [u64], out: &mut [u8]) -> Solved {
         let walk = |sheet: &Sheet, budget: u64| {
-            let counted = alike::count(sheet, 2_000)?;
+            let counted = count(sheet, 2_000)?;
             let trials = u64::try_from(counted.trials).ok()?.saturating_sub(self.0);
             (trials <= budget).then_some(Walked { trials, found: counted.found })
         };
@@ -117,7 +117,7 @@ impl Program for Counting {
 
 #[test]
 fn counts_past_every_plain_walk() {
-    let report = check_alike(&Counting(0), 7, 60).expect("no difference");
+    let report = check_alike(&mut Here::new(Counting(0)), 7, 0..60, None).expect("no difference");
     assert!(report.tally.answered("solve", 0) > 20 && report.tally.answered("solve", 2) > 20);
-    assert!(check_alike(&Counting(1), 7, 60).is_err());
+    assert!(check_alike(&mut Here::new(Counting(1)), 7, 0..60, None).is_err());
 }

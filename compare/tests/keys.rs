@@ -1,11 +1,11 @@
 //! The paper's keys K1 to K12 and the limits listed after them.
 
 use compare::draft::Draft;
-use compare::gate::gate;
 use compare::keys::{brackets, keys, star_of_a};
-use compare::make::{make, Made};
 use compare::program::line;
-use compare::solve::{solve, WORK};
+use compare::second::gate::gate;
+use compare::second::make::{make, Made};
+use compare::second::solve::{solve, WORK};
 
 fn answer(sheet: &[u8], budget: u64) -> String {
     let (mut work, mut out) = ([7; WORK], [9; 60]);

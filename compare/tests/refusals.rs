@@ -1,11 +1,11 @@
 //! Each refusal, each rule of a record or an option, and the order of the checks.
 
 use compare::draft::Draft;
-use compare::gate::{gate, CutList};
 use compare::keys::{brackets, star_of_a};
-use compare::make::make;
-use compare::sheet::Sheet;
-use compare::solve::WORK;
+use compare::second::gate::{gate, CutList};
+use compare::second::make::make;
+use compare::second::sheet::Sheet;
+use compare::second::solve::WORK;
 
 fn number(sheet: &[u8]) -> u32 {
     Sheet::check(sheet).err().unwrap_or(0)

@@ -3,13 +3,13 @@
 use std::fs;
 use std::path::PathBuf;
 
-use compare::alike;
+use compare::count::count;
 use compare::everyday;
-use compare::gate::gate;
 use compare::keys::{keys, BUDGET};
 use compare::program::line;
-use compare::sheet::{read_u16, Sheet, TABLES};
-use compare::solve::{solve, WORK};
+use compare::second::gate::gate;
+use compare::second::sheet::{read_u16, Sheet, TABLES};
+use compare::second::solve::{solve, WORK};
 
 fn kept(name: &str) -> Vec<u8> {
     let folder = PathBuf::from(env!("CARGO_MANIFEST_DIR")).join("../sheets");
@@ -38,7 +38,7 @@ fn answers() {
 fn ten_digits() {
     for name in ["digits10-none", "digits10-none-back"] {
         let sheet = Sheet::check(&sheet(name)).expect("an accepted sheet");
-        let counted = alike::count(&sheet, 2_000).expect("a count in reach");
+        let counted = count(&sheet, 2_000).expect("a count in reach");
         assert_eq!((counted.trials, counted.found), (41_111_111_232, None), "{name}");
     }
 }

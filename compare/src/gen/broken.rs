@@ -1,8 +1,8 @@
 //! Records at the edge of their rules, on either side of it.
 
 use crate::draft::{Draft, Record, Statement};
+use crate::second::sheet::TABLES;
 use crate::seed::Seeded;
-use crate::sheet::TABLES;
 
 /// Puts one such record into a table.
 pub fn break_record(s: &mut Seeded, draft: &mut Draft) {

@@ -2,8 +2,8 @@
 
 use super::{alike::alike, broken::break_record, filters::filters, limits::limits, small::small};
 use crate::draft::Draft;
+use crate::second::sheet::{read_u16, MARK, SHEET_LIMIT, TABLES, TRAILER};
 use crate::seed::Seeded;
-use crate::sheet::{read_u16, MARK, SHEET_LIMIT, TABLES, TRAILER};
 
 /// Where the trailer's fields are, from its start.
 const TOTAL: usize = 24;

@@ -2,8 +2,8 @@
 
 use super::small::{add_assertion, add_bytes, add_rows, part, run, stretch};
 use crate::draft::Draft;
+use crate::second::sheet::{Sheet, LENGTH_LIMIT, TABLES};
 use crate::seed::Seeded;
-use crate::sheet::{Sheet, LENGTH_LIMIT, TABLES};
 
 pub fn limits(s: &mut Seeded) -> Draft {
     let (shortest, longest) =

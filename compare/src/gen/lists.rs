@@ -1,6 +1,6 @@
 //! Cut lists that no maker wrote, damaged lists, and words to try at them.
 
-use crate::gate::{Choice, CutList, LIST_MARK};
+use crate::second::gate::{Choice, CutList, LIST_MARK};
 use crate::seed::Seeded;
 
 /// A well-formed list with chance options, and its text.

@@ -1,20 +1,20 @@
 -- A cell from its steps, and the table from its cells.
 -- Assumes nothing.
 use Prim.Native.Nat.{ℕ, zero, suc, _+_, _*_, _-_, _≤_, _<_}
-use mathlib.Core.Path.{_≡_, refl, sym, ap, _∙_, subst}
+use mathlib.Core.Path.{_≡_, refl, sym, _∙_, subst}
 use mathlib.Core.Bool.{Bool, true, false, _&&_, _||_, and-false, true≢false}
-use mathlib.Core.Logic.{_≢_, _⊎_, inl, inr}
+use mathlib.Core.Logic.{_⊎_, inl, inr}
 use mathlib.Core.List.{List}
 use native.Mathlib.Omega.{arith}
 use native.Mathlib.Decide.{decLt}
 use native.Mathlib.Nat.{not-suc-le-zero}
 use lib.Dec.{eqb}
-use lib.ListN.{length, getD, drop, List·getD-eq-default}
-use Rattle.paper.specs.Rows.{Row, Grammar, row, noRow, Reach}
+use lib.ListN.{length, List·getD-eq-default}
+use Rattle.paper.specs.Rows.{row, noRow, Reach}
 use Rattle.paper.specs.Tests.{anyBelow}
 use Rattle.paper.specs.Decide.{Pattern, Test, reaches, someIn, ownRow, level, accepts}
 use Rattle.paper.specs.Sheet.{Sheet}
-use Rattle.paper.proofs.Tests.{any-intro, and-intro, and-right, any-none, or-false, or-cases, or-right, or-assoc, same-test}
+use Rattle.paper.proofs.Tests.{any-intro, and-intro, any-none, or-cases, or-right, or-assoc, same-test}
 use Rattle.paper.proofs.Reaching.{reaches-from}
 use Rattle.paper.proofs.Derivation.{accepts-level}
 use Rattle.workspace.specs.Spans.{spanAt}
@@ -24,7 +24,7 @@ use Rattle.workspace.proofs.Spans.{lt-or-le, span-inj}
 use Rattle.groundwork.specs.Ground.{Ground}
 use Rattle.chart_cells.specs.Steps.{Kept, Adds, parted, brought, carriedIn}
 use Rattle.workspace.specs.Within.{Within}
-use Rattle.chart.specs.Cells.{ranged, fitting, splitting, passing, Cell, Filled}
+use Rattle.chart.specs.Cells.{ranged, fitting, passing, Cell, Filled}
 use Rattle.chart_cells.proofs.Adding.{kept-then, kept-wiped}
 use Rattle.chart_cells.proofs.Splitting.{any-same}
 use Rattle.chart.proofs.Owning.{own-parts, splits-found}

@@ -1,34 +1,35 @@
 -- What a row does by itself, by its kind, and that a cell's steps find it.
 -- Assumes nothing.
-use Prim.Native.Nat.{ℕ, zero, suc, _+_, _*_, _-_, _/_, _%_, _≤_, _<_}
+use Prim.Native.Nat.{ℕ, suc, _+_, _-_, _/_, _%_, _≤_, _<_}
 use mathlib.Core.Path.{_≡_, refl, sym, ap, _∙_, subst}
-use mathlib.Core.Bool.{Bool, true, false, cond, _&&_, _||_, true≢false, and-false}
+use mathlib.Core.Bool.{Bool, true, false, cond, _&&_, _||_, true≢false}
 use mathlib.Core.Logic.{_≢_}
-use mathlib.Core.List.{List, [], _∷_, map}
+use mathlib.Core.List.{List}
 use native.Mathlib.Omega.{arith}
-use native.Mathlib.Numerals.{add-one}
 use native.Mathlib.Decide.{ℕ-discrete, decLt}
-use native.Mathlib.Nat.{add-sub-of-le, not-suc-le-zero}
+use native.Mathlib.Nat.{add-sub-of-le}
 use lib.Dec.{eqb, leb, ltb}
-use lib.ListN.{length, getD, take, drop, length-take, length-drop, List·getD-eq-default}
+use lib.ListN.{length, getD, take, drop, length-drop, List·getD-eq-default}
 use lib.Seq.{getD-take, getD-drop, length-take-le}
-use borrow.Author.Tests.{eqb-true, leb-true, ltb-true, eq-eqb, ne-eqb, le-leb, lt-leb, lt-ltb, le-ltb}
-use Rattle.paper.specs.Tests.{anyBelow, allBelow}
+use borrow.Author.Tests.{eqb-true, leb-true, eq-eqb, ne-eqb, le-leb, lt-leb, lt-ltb, le-ltb}
+use Rattle.paper.specs.Tests.{anyBelow}
 use Rattle.paper.specs.Rows.{Row, Empty, Range, Text, Alt, Seq, Star, Grammar, row, stretch, noRow}
-use Rattle.paper.specs.Decide.{Pattern, Test, sameByte, fits, someIn, split, ownRow, accepts}
-use Rattle.paper.specs.Terms.{Place, Known, Unknown}
+use Rattle.paper.specs.Compare.{sameByte}
+use Rattle.paper.specs.Decide.{Pattern, Test, fits, someIn, split, ownRow, accepts}
 use Rattle.paper.specs.Sheet.{Sheet, letter}
 use Rattle.paper.specs.Opens.{allows, pattern}
 use Rattle.paper.proofs.Tests.{any-intro, any-elim, all-intro, all-elim, and-intro, and-left, and-right, or-false, same-test}
 use Rattle.paper.proofs.Derivation.{at-fits, fits-at, stretch-part}
 use Rattle.workspace.specs.Spans.{spanAt}
 use Rattle.workspace.specs.Bits.{bit, bitAt}
-use Rattle.groundwork.specs.Ground.{Ground, Splits, someLetter, pairWord, pairsAt, countAt, lengthsAt}
-use Rattle.workspace.specs.Places.{placeOf, placesIn}
+use Rattle.groundwork.specs.Ground.{Ground, Splits, someLetter, pairsAt, countAt, lengthsAt}
+use Rattle.workspace.specs.Places.{placesIn}
+use Rattle.workspace.proofs.Places.{place-known, place-unknown, places-at}
+use Rattle.sheet_contents.specs.Ranges.{holdsByte}
 use Rattle.chart_cells.specs.Steps.{Adds, only, both, paired, parted}
-use Rattle.chart.specs.Cells.{holds, ranged, fitting, splitting, among, passing, canHold, canHoldAll}
+use Rattle.chart.specs.Cells.{holding, ranged, fitting, splitting, among, passing, canHold, canHoldAll}
 use Rattle.chart_cells.proofs.Adding.{adds-then}
-use Rattle.chart_cells.proofs.Splitting.{any-same, any-fails}
+use Rattle.chart_cells.proofs.Splitting.{any-same}
 use Rattle.chart.proofs.Reaching.{accepted-below, word-row, word-first, word-second}
 
 -- the steps of a cell together
@@ -73,23 +74,14 @@ module _ (g : Grammar) (f : Row → Bool) where
 
 -- ---- places
 
-place-in : (xs : List ℕ) (i : ℕ) → i < length xs → getD (map placeOf xs) i Unknown ≡ placeOf (getD xs i 0)
-place-in [] i h = absurd (not-suc-le-zero h)
-place-in (x ∷ xs) zero h = refl
-place-in (x ∷ xs) (suc i) h = place-in xs i (omega arith)
-
 module _ (S : Sheet) (places : List ℕ) (i : ℕ) (h : i < length places) where
-  place-at : getD (placesIn places) i Unknown ≡ placeOf (getD places i 0)
-  unfolding placesIn
-  place-at = place-in places i h
-
-  pub known-place : getD places i 0 < 256 → (b : ℕ) → pattern S (placesIn places) i b ≡ eqb b (getD places i 0)
-  unfolding pattern allows placeOf
-  known-place l b = rw (place-at, lt-ltb (getD places i 0) 256 l)
+  pub known-place : getD places i 0 < 256 → (b : ℕ) → pattern S (placesIn places) i b ≡ sameByte b (getD places i 0)
+  unfolding pattern allows
+  known-place l b = rw (places-at places i h, place-known (getD places i 0) l)
 
   pub unknown-place : 256 ≤ getD places i 0 → (b : ℕ) → pattern S (placesIn places) i b ≡ letter S b
-  unfolding pattern allows placeOf
-  unknown-place l b = rw (place-at, le-ltb (getD places i 0) 256 l)
+  unfolding pattern allows
+  unknown-place l b = rw (places-at places i h, place-unknown (getD places i 0) l)
 
 -- ---- ranges
 
@@ -111,8 +103,8 @@ range-in pat i lo hi x h = same-test _ _ there back
         any-intro (suc hi - lo) (λ k. pat i (lo + k)) (x - lo) (omega arith) (rw (add-sub-of-le a, h x) (eq-eqb x x refl))
 
 module _ (S : Sheet) (places : List ℕ) (i : ℕ) (h : i < length places) where
-  pub known-range : getD places i 0 < 256 → (x : Row) → holds (getD places i 0) x ≡ ranged (pattern S (placesIn places)) 1 i x
-  unfolding holds ranged
+  pub known-range : getD places i 0 < 256 → (x : Row) → holding (getD places i 0) x ≡ ranged (pattern S (placesIn places)) 1 i x
+  unfolding holding holdsByte ranged
   known-range l Empty = refl
   known-range l (Range lo hi) = sym (range-in (pattern S (placesIn places)) i lo hi (getD places i 0) (known-place S places i h l))
   known-range l (Text off len) = refl
@@ -147,8 +139,8 @@ long-range g pat m i r ne = go (row g r)
     go (Star a) = refl
 
 -- no range: no byte
-pub no-holds : (x : ℕ) → holds x noRow ≡ false
-unfolding holds
+pub no-holds : (x : ℕ) → holding x noRow ≡ false
+unfolding holding holdsByte
 no-holds x = go x (leb 1 x) refl
   where
     go : (x : ℕ) (b : Bool) → leb 1 x ≡ b → (leb 1 x && leb x 0) ≡ false

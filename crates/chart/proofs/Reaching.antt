@@ -1,20 +1,20 @@
 -- What the groundwork's record gives to the chart's loops.
 -- Assumes nothing.
-use Prim.Native.Nat.{ℕ, zero, suc, _+_, _*_, _-_, _/_, _%_, _≤_, _<_}
-use mathlib.Core.Path.{_≡_, refl, sym, ap, _∙_, subst}
-use mathlib.Core.Bool.{Bool, true, false, true≢false}
+use Prim.Native.Nat.{ℕ, _/_, _%_, _≤_, _<_}
+use mathlib.Core.Path.{_≡_, sym, _∙_}
+use mathlib.Core.Bool.{true, true≢false}
 use mathlib.Core.List.{List}
 use native.Mathlib.Omega.{arith}
-use lib.ListN.{length, getD}
-use Rattle.paper.specs.Rows.{Grammar, Reach, Keeps}
-use Rattle.paper.specs.Decide.{Pattern, reaches, accepts}
+use lib.ListN.{length}
+use Rattle.paper.specs.Rows.{Grammar, Reach}
+use Rattle.paper.specs.Decide.{Pattern, accepts}
 use Rattle.paper.specs.Sheet.{Sheet}
-use Rattle.paper.proofs.Reaching.{derives-below, reaches-sound, reaches-from}
+use Rattle.paper.proofs.Reaching.{spells-below, reaches-sound, reaches-from}
 use Rattle.paper.proofs.Derivation.{accepts-right}
 use Rattle.workspace.specs.Bits.{bitAt}
 use Rattle.workspace.proofs.Bits.{bit-past}
 use Rattle.workspace.proofs.Spans.{lt-or-le}
-use Rattle.groundwork.specs.Ground.{Ground, pairWord, pairsAt, countAt}
+use Rattle.groundwork.specs.Ground.{Ground, pairWord}
 use Rattle.chart_cells.specs.Steps.{Pairs, Chained}
 
 -- a bit that is set is a row's
@@ -27,7 +27,7 @@ reach-then g (Reach.step k x) y = Reach.step k (reach-then g x y)
 
 -- a row that passes is in the table
 pub accepted-below : (g : Grammar) (pat : Pattern) (m i r : ℕ) → accepts g pat m i r ≡ true → r < length (g .rows)
-accepted-below g pat m i r e = derives-below g ((accepts-right g pat m i r) .0 e .derived)
+accepted-below g pat m i r e = spells-below g ((accepts-right g pat m i r) .0 e .spelled)
 
 -- ---- a pair's word taken apart
 

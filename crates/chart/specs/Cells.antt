@@ -3,27 +3,36 @@ use Prim.Native.Nat.{ℕ, _+_, _/_, _%_, _<_, _≤_}
 use mathlib.Core.Path.{_≡_}
 use mathlib.Core.Bool.{Bool, false, cond, _&&_}
 use mathlib.Core.List.{List}
-use lib.Dec.{eqb, leb, ltb}
-use lib.ListN.{length, getD, drop}
+use lib.Dec.{eqb, ltb}
+use lib.ListN.{length, getD}
 use Rattle.paper.specs.Tests.{allBelow}
 use Rattle.paper.specs.Rows.{Row, Empty, Range, Text, Alt, Seq, Star, Grammar, row, stretch}
 use Rattle.paper.specs.Decide.{Pattern, Test, fits, someIn, split, accepts}
 use Rattle.paper.specs.Sheet.{sheetOf, grammarOf}
 use Rattle.paper.specs.Opens.{pattern}
+use Rattle.sheet_trailer.specs.declared.Table.{Table}
+use Rattle.sheet_trailer.specs.Tables.{TableOf}
+use Rattle.sheet_contents.specs.Ranges.{holdsByte}
 use Rattle.workspace.specs.Within.{Within}
 use Rattle.workspace.specs.Spans.{spanAt}
 use Rattle.workspace.specs.Bits.{bitAt}
 use Rattle.workspace.specs.Places.{placesIn}
+use Rattle.groundwork.specs.Lent.{Lent}
 use Rattle.chart_cells.specs.Steps.{Kept}
 
--- a range that holds the byte
-unfoldable pub holds : ℕ → Row → Bool
-holds x Empty = false
-holds x (Range lo hi) = leb lo x && leb x hi
-holds x (Text off len) = false
-holds x (Alt a b) = false
-holds x (Seq a b) = false
-holds x (Star a) = false
+-- what the chart's functions are handed: what every trial is lent, where the rows lie, and the places of a term
+pub record Charting (s : List ℕ) (rows : Table) (places lay work : List ℕ) : Type 0 where
+  pub lent : Lent s lay work
+  pub table : TableOf s 2 rows
+  pub short : length places ≤ 60
+
+-- the bytes that the places allow
+abbrev pub allowed : (s places : List ℕ) → Pattern
+allowed s places = pattern (sheetOf s) (placesIn places)
+
+-- a range that holds the byte x
+unfoldable pub holding : ℕ → Row → Bool
+holding x r = holdsByte r x
 
 -- a range, of one byte, with a byte that is allowed at place i
 unfoldable pub ranged : Pattern → (m i : ℕ) → Row → Bool
@@ -72,7 +81,7 @@ canHoldAll lay places i off part = allBelow (length part) (λ k. canHold lay (ge
 
 -- what the bits of a sheet's chart are
 abbrev pub derivable : (s places : List ℕ) → Test
-derivable s places = accepts (grammarOf s) (pattern (sheetOf s) (placesIn places))
+derivable s places = accepts (grammarOf s) (allowed s places)
 
 -- what the bits of the empty spans are, by the groundwork
 unfoldable pub emptied : List ℕ → Test

@@ -3,38 +3,35 @@
 pub mod singles;
 
 ghost use mathlib.Core.Path.{_≡_};
-ghost use Prim.Native.Nat.{_+_, _*_, _≤_, _<_};
+ghost use Prim.Native.Nat.{_+_, _≤_, _<_};
 ghost use lib.ListN.{length};
-ghost use Rattle.paper.specs.Refusals.{refusal};
-ghost use Rattle.paper.specs.Sheet.{sheetOf};
 ghost use Rattle.workspace.specs.Spans.{spanAt};
 ghost use Rattle.workspace.specs.Bits.{bitAt};
-ghost use Rattle.groundwork.specs.Ground.{Ground};
-ghost use Rattle.chart.specs.Cells.{derivable, emptied, Cell, Filled, Grown, Charted};
+ghost use Rattle.chart.specs.Cells.{Charting, derivable, emptied, Cell, Filled, Grown, Charted};
+use sheet_trailer::Table;
 
 // The span of the m places from i on: what each row does by itself, carried to the rows that reach it.
-fn cell(s: &[u8], places: &[u16], lay: &[u64], work: &mut [u64], i: usize, m: usize)
-    requires { ⌜ (refusal (now s) ≡ 0) × Ground (sheetOf (now s)) (now lay) × (0 < m) × (i + m ≤ length (now places)) × (length (now places) ≤ 60) × (7564 ≤ length (now work)) × Filled (derivable (now s) (now places)) (length (now places)) m i (now work) ⌝ }
+fn cell(s: &[u8], rows: Table, places: &[u16], lay: &[u64], work: &mut [u64], i: usize, m: usize)
+    requires { ⌜ Charting (now s) rows (now places) (now lay) (now work) × (0 < m) × (i + m ≤ length (now places)) × Filled (derivable (now s) (now places)) (length (now places)) m i (now work) ⌝ }
     ensures { λ _. ⌜ Cell (derivable (now (s .entry)) (now (places .entry))) m i (now (work .entry)) (now (work .exit)) ⌝ }
 {
     let sp = workspace::span(i, m);
     workspace::wipe(work, sp);
-    singles::singles(s, places, lay, work, i, m, sp);
-    singles::texts(s, places, lay, work, i, m, sp);
+    singles::singles(s, rows, places, lay, work, i, m, sp);
+    singles::texts(s, rows, places, lay, work, i, m, sp);
     chart_cells::splits(lay, work, i, m, sp);
-    let rows = sheet_trailer::field(s, 7);
-    chart_cells::carry(lay, work, sp, rows);
+    chart_cells::carry(lay, work, sp, rows.count);
 }
 
 // Every span of m places.
-fn level(s: &[u8], places: &[u16], lay: &[u64], work: &mut [u64], m: usize)
-    requires { ⌜ (refusal (now s) ≡ 0) × Ground (sheetOf (now s)) (now lay) × (0 < m) × (m ≤ length (now places)) × (length (now places) ≤ 60) × (7564 ≤ length (now work)) × Filled (derivable (now s) (now places)) (length (now places)) m 0 (now work) ⌝ }
+fn level(s: &[u8], rows: Table, places: &[u16], lay: &[u64], work: &mut [u64], m: usize)
+    requires { ⌜ Charting (now s) rows (now places) (now lay) (now work) × (0 < m) × (m ≤ length (now places)) × Filled (derivable (now s) (now places)) (length (now places)) m 0 (now work) ⌝ }
     ensures { λ _. ⌜ Grown (derivable (now (s .entry)) (now (places .entry))) (length (now (places .entry))) (m + 1) (now (work .entry)) (now (work .exit)) ⌝ }
 {
     let n = places.len();
     let mut i = 0;
     while i + m <= n {
-        cell(s, places, lay, work, i, m);
+        cell(s, rows, places, lay, work, i, m);
         i += 1;
     }
 }
@@ -53,15 +50,15 @@ fn empties(lay: &[u64], work: &mut [u64], n: usize)
 }
 
 // Every span of the term, the shorter ones first.
-pub fn fill(s: &[u8], places: &[u16], lay: &[u64], work: &mut [u64])
-    requires { ⌜ (refusal (now s) ≡ 0) × Ground (sheetOf (now s)) (now lay) × (length (now places) ≤ 60) × (7564 ≤ length (now work)) ⌝ }
+pub fn fill(s: &[u8], rows: Table, places: &[u16], lay: &[u64], work: &mut [u64])
+    requires { ⌜ Charting (now s) rows (now places) (now lay) (now work) ⌝ }
     ensures { λ _. ⌜ Charted (now (s .entry)) (now (places .entry)) (now (work .entry)) (now (work .exit)) ⌝ }
 {
     let n = places.len();
     empties(lay, work, n);
     let mut m = 1;
     while m <= n {
-        level(s, places, lay, work, m);
+        level(s, rows, places, lay, work, m);
         m += 1;
     }
 }

@@ -1,41 +1,43 @@
 // What a cell has from rows that take their bytes themselves: ranges of one byte, and texts.
 ghost use mathlib.Core.Path.{_≡_};
-ghost use Prim.Native.Nat.{_+_, _*_, _≤_, _<_};
+ghost use Prim.Native.Nat.{_+_, _≤_, _<_};
 ghost use lib.ListN.{length, getD};
 ghost use lib.Dec.{eqb};
 ghost use Rattle.paper.specs.Rows.{row};
-ghost use Rattle.paper.specs.Trailer.{offsetOf, countOf};
-ghost use Rattle.paper.specs.Refusals.{refusal};
 ghost use Rattle.paper.specs.Sheet.{sheetOf, grammarOf, textOf};
-ghost use Rattle.paper.specs.Opens.{pattern};
 ghost use Rattle.workspace.specs.Bits.{bit};
+ghost use Rattle.sheet_trailer.specs.Tables.{TableOf};
+ghost use Rattle.sheet_contents.specs.Read.{asRow};
+ghost use Rattle.sheet_contents.specs.Ranges.{holdsByte};
+ghost use Rattle.sheet.specs.Good.{Good};
 ghost use Rattle.groundwork.specs.Ground.{Ground, lengthsAt};
-ghost use Rattle.workspace.specs.Places.{placesIn};
 ghost use Rattle.chart_cells.specs.Steps.{Adds};
-ghost use Rattle.chart.specs.Cells.{«holds», ranged, fitting, among, passing, canHold, canHoldAll};
+ghost use Rattle.chart.specs.Cells.{Charting, allowed, holding, ranged, fitting, among, passing, canHold, canHoldAll};
+use sheet_contents::Row;
+use sheet_trailer::Table;
 
-// Whether row q is a range that holds the byte x.
-fn holds(s: &[u8], at: usize, q: usize, x: usize) -> bool
-    requires { ⌜ (refusal (now s) ≡ 0) × (at ≡ offsetOf (now s) 2) × (q < countOf (now s) 2) ⌝ }
-    ensures { λ r. ⌜ r ≡ «holds» x (row (grammarOf (now (s .entry))) q) ⌝ }
+// Whether the row is a range that holds the byte x.
+fn holds(r: Row, x: usize) -> bool
+    ensures { λ b. ⌜ b ≡ holdsByte (asRow r) x ⌝ }
 {
-    let f = sheet::row_at(s, at, q);
-    if f.kind != 2 {
-        return false;
+    match r {
+        Row::Range(low, high) => low <= x && x <= high,
+        Row::Empty => false,
+        Row::Text(_, _) => false,
+        Row::Alt(_, _) => false,
+        Row::Seq(_, _) => false,
+        Row::Star(_) => false,
     }
-    f.a <= x && x <= f.b
 }
 
 // The ranges that hold the byte x, into span sp.
-fn ranges(s: &[u8], x: usize, work: &mut [u64], sp: usize)
-    requires { ⌜ (refusal (now s) ≡ 0) × (sp < 1891) × (7564 ≤ length (now work)) ⌝ }
-    ensures { λ _. ⌜ Adds sp (among (grammarOf (now (s .entry))) («holds» x) (countOf (now (s .entry)) 2)) (now (work .entry)) (now (work .exit)) ⌝ }
+fn ranges(s: &[u8], rows: Table, x: usize, work: &mut [u64], sp: usize)
+    requires { ⌜ Good (now s) × TableOf (now s) 2 rows × (sp < 1891) × (7564 ≤ length (now work)) ⌝ }
+    ensures { λ _. ⌜ Adds sp (among (grammarOf (now (s .entry))) (holding x) (rows .count)) (now (work .entry)) (now (work .exit)) ⌝ }
 {
-    let at = sheet_trailer::field(s, 6);
-    let n = sheet_trailer::field(s, 7);
     let mut q = 0;
-    while q < n {
-        let on = holds(s, at, q, x);
+    while q < rows.count {
+        let on = holds(sheet::row_at(s, rows, q), x);
         chart_cells::put(work, sp, q, on);
         q += 1;
     }
@@ -44,6 +46,7 @@ fn ranges(s: &[u8], x: usize, work: &mut [u64], sp: usize)
 // The ranges that hold a byte allowed at place i, into its span, where m is 1.
 pub fn singles(
     s: &[u8],
+    rows: Table,
     places: &[u16],
     lay: &[u64],
     work: &mut [u64],
@@ -51,15 +54,15 @@ pub fn singles(
     m: usize,
     sp: usize,
 )
-    requires { ⌜ (refusal (now s) ≡ 0) × Ground (sheetOf (now s)) (now lay) × (i + m ≤ length (now places)) × (sp < 1891) × (7564 ≤ length (now work)) ⌝ }
-    ensures { λ _. ⌜ Adds sp (passing (grammarOf (now (s .entry))) (ranged (pattern (sheetOf (now (s .entry))) (placesIn (now (places .entry)))) m i)) (now (work .entry)) (now (work .exit)) ⌝ }
+    requires { ⌜ Charting (now s) rows (now places) (now lay) (now work) × (i + m ≤ length (now places)) × (sp < 1891) ⌝ }
+    ensures { λ _. ⌜ Adds sp (passing (grammarOf (now (s .entry))) (ranged (allowed (now (s .entry)) (now (places .entry))) m i)) (now (work .entry)) (now (work .exit)) ⌝ }
 {
     if m != 1 {
         return;
     }
     let x = places[i] as usize;
     if x < 256 {
-        ranges(s, x, work, sp);
+        ranges(s, rows, x, work, sp);
         return;
     }
     workspace::join(work, sp, lay, 257);
@@ -97,27 +100,31 @@ pub fn can_hold_all(part: &[u8], off: usize, places: &[u16], i: usize, lay: &[u6
 // Whether row q is a text of m bytes that fits the places from i on.
 fn text_fits(
     s: &[u8],
-    at: usize,
-    text: &[u8],
+    rows: Table,
     q: usize,
+    text: &[u8],
     places: &[u16],
     i: usize,
     m: usize,
     lay: &[u64],
 ) -> bool
-    requires { ⌜ (refusal (now s) ≡ 0) × (at ≡ offsetOf (now s) 2) × (now text ≡ textOf (now s)) × (q < countOf (now s) 2) × (i + m ≤ length (now places)) × Ground (sheetOf (now s)) (now lay) ⌝ }
-    ensures { λ r. ⌜ r ≡ fitting (textOf (now (s .entry))) (pattern (sheetOf (now (s .entry))) (placesIn (now (places .entry)))) m i (row (grammarOf (now (s .entry))) q) ⌝ }
+    requires { ⌜ Good (now s) × TableOf (now s) 2 rows × (q < rows .count) × (now text ≡ textOf (now s)) × (i + m ≤ length (now places)) × Ground (sheetOf (now s)) (now lay) ⌝ }
+    ensures { λ r. ⌜ r ≡ fitting (textOf (now (s .entry))) (allowed (now (s .entry)) (now (places .entry))) m i (row (grammarOf (now (s .entry))) q) ⌝ }
 {
-    let f = sheet::row_at(s, at, q);
-    if f.kind != 3 {
-        return false;
+    match sheet::row_at(s, rows, q) {
+        Row::Text(a, len) => {
+            if len != m {
+                return false;
+            }
+            let e = a + len;
+            can_hold_all(&text[a..e], a, places, i, lay)
+        }
+        Row::Empty => false,
+        Row::Range(_, _) => false,
+        Row::Alt(_, _) => false,
+        Row::Seq(_, _) => false,
+        Row::Star(_) => false,
     }
-    if f.b != m {
-        return false;
-    }
-    let a = f.a;
-    let e = a + m;
-    can_hold_all(&text[a..e], a, places, i, lay)
 }
 
 // Whether some text row has m bytes.
@@ -129,19 +136,26 @@ fn has_length(lay: &[u64], m: usize) -> bool
 }
 
 // The texts of m bytes that fit the places from i on, into their span.
-pub fn texts(s: &[u8], places: &[u16], lay: &[u64], work: &mut [u64], i: usize, m: usize, sp: usize)
-    requires { ⌜ (refusal (now s) ≡ 0) × Ground (sheetOf (now s)) (now lay) × (i + m ≤ length (now places)) × (m ≤ 60) × (sp < 1891) × (7564 ≤ length (now work)) ⌝ }
-    ensures { λ _. ⌜ Adds sp (passing (grammarOf (now (s .entry))) (fitting (textOf (now (s .entry))) (pattern (sheetOf (now (s .entry))) (placesIn (now (places .entry)))) m i)) (now (work .entry)) (now (work .exit)) ⌝ }
+pub fn texts(
+    s: &[u8],
+    rows: Table,
+    places: &[u16],
+    lay: &[u64],
+    work: &mut [u64],
+    i: usize,
+    m: usize,
+    sp: usize,
+)
+    requires { ⌜ Charting (now s) rows (now places) (now lay) (now work) × (i + m ≤ length (now places)) × (sp < 1891) ⌝ }
+    ensures { λ _. ⌜ Adds sp (passing (grammarOf (now (s .entry))) (fitting (textOf (now (s .entry))) (allowed (now (s .entry)) (now (places .entry))) m i)) (now (work .entry)) (now (work .exit)) ⌝ }
 {
     if !has_length(lay, m) {
         return;
     }
-    let at = sheet_trailer::field(s, 6);
-    let n = sheet_trailer::field(s, 7);
     let text = sheet::text_of(s);
     let mut q = 0;
-    while q < n {
-        let on = text_fits(s, at, text, q, places, i, m, lay);
+    while q < rows.count {
+        let on = text_fits(s, rows, q, text, places, i, m, lay);
         chart_cells::put(work, sp, q, on);
         q += 1;
     }

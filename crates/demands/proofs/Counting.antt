@@ -5,8 +5,9 @@ use mathlib.Core.Path.{_≡_, refl, sym, ap, fun-ext, _∙_}
 use mathlib.Core.Bool.{Bool, true}
 use mathlib.Core.Logic.{_↔_}
 use mathlib.Core.List.{List}
+use native.Mathlib.Omega.{arith}
 use Rattle.paper.specs.Bytes.{OfBytes}
-use Rattle.paper.specs.Refusals.{Accepted}
+use Rattle.paper.specs.Refusals.{latest, Accepted}
 use Rattle.paper.specs.Sheet.{Sheet, letter, sheetOf}
 use Rattle.paper.specs.Open.{Open}
 use Rattle.paper.specs.Opens.{opens}
@@ -32,12 +33,12 @@ module _ (sheet : List ℕ) (a : Accepted sheet) where
   -- at least the empty prefix is judged
   pub some-trial : 0 < needed (sheetOf sheet)
   unfolding walkOf sheetOf
-  some-trial = count-walk _ _ _ _ (good sheet a .pair)
+  some-trial = count-walk _ _ _ _ (good latest sheet (omega arith) a .pair)
 
   module _ (b : OfBytes sheet) where
     -- the judgement is right, since an accepted sheet has a letter
     pub judged-open : (n : ℕ) (p : List ℕ) → (opens (sheetOf sheet) n p ≡ true) ↔ Open (sheetOf sheet) n p
-    judged-open = let l = some-letter sheet b a in opens-right (sheetOf sheet) (l .0, l .2)
+    judged-open = let l = some-letter sheet b (good latest sheet (omega arith) a) in opens-right (sheetOf sheet) (l .0, l .2)
 
     pub trials-counted : Counted (sheetOf sheet) (needed (sheetOf sheet))
     unfolding walkOf

@@ -30,7 +30,7 @@ use Rattle.demands.proofs.Handed.{list-taken, gate-reads, reads-right, 
 -- ---- demand 1: a fault is named by its number, the length reported is 0, and nothing lent is changed
 
 -- the solver: 10 to 19; trials 0 too
-pub demand-1-solver : (sheet : List ℕ) (budget : ℕ) (work out : List ℕ) (r : Report) (work′ out′ : List ℕ) → Solves sheet budget work out r work′ out′
+pub demand-1-solver : (sheet : List ℕ) (budget : ℕ) (work out : List ℕ) (r : Report) (work′ out′ : List ℕ) → Solves reportOf sheet budget work out r work′ out′
     → 0 < solverRefusal sheet (length work) (length out)
     → (r ≡ refused (solverRefusal sheet (length work) (length out))) × (work′ ≡ work) × (out′ ≡ out)
 demand-1-solver sheet budget work out r work′ out′ p h =
@@ -38,7 +38,7 @@ demand-1-solver sheet budget work out r work′ out′ p h =
     (p .said ∙ ap reportOf e, p .cleared ∙ ap (λ (a : Said). workAfter a work) e, p .wrote ∙ ap (λ (a : Said). outAfter a out) e)
 
 -- the maker: 10 to 17, then 20 to 22
-pub demand-1-maker : (sheet : List ℕ) (row n : ℕ) (space : List ℕ) (r : MakerReport) (space′ : List ℕ) → Makes sheet row n space r space′
+pub demand-1-maker : (sheet : List ℕ) (row n : ℕ) (space : List ℕ) (r : MakerReport) (space′ : List ℕ) → Makes (λ q. q) sheet row n space r space′
     → 0 < makerRefusal sheet row n (length space)
     → (r .number ≡ makerRefusal sheet row n (length space)) × (r .length ≡ 0) × (space′ ≡ space)
 unfolding makerSays spaceAfter
@@ -58,7 +58,7 @@ demand-1-gate list text word work number work′ p h = (p .said, p .left ∙ rw 
 -- DEMAND 2. For every accepted sheet and every budget, lent 7,564 words and an output of the longest length, whatever the solver's promise allows:
 -- the paper's walk, in which a prefix is open exactly when it is `Open`, needs some number of trials, and the answer is `Answered` of it (both in
 -- specs/Solved); the first 7,564 words of the workspace are then zero, and later words stay.
-pub demand-2 : (sheet : List ℕ) (budget : ℕ) (work out : List ℕ) (r : Report) (work′ out′ : List ℕ) → Solves sheet budget work out r work′ out′
+pub demand-2 : (sheet : List ℕ) (budget : ℕ) (work out : List ℕ) (r : Report) (work′ out′ : List ℕ) → Solves reportOf sheet budget work out r work′ out′
     → OfBytes sheet → Accepted sheet → words ≤ length work → longest sheet ≤ length out
     → (k : ℕ) × Counted (sheetOf sheet) k × Answered (sheetOf sheet) k budget out out′ r × (work′ ≡ zeroed words work)
 unfolding words
@@ -71,7 +71,7 @@ demand-2 sheet budget work out r work′ out′ p bytes a b c =
     )
 
 -- "budget 0 is always spent on an accepted sheet"
-pub budget-0-spent : (sheet work out : List ℕ) (r : Report) (work′ out′ : List ℕ) → Solves sheet 0 work out r work′ out′
+pub budget-0-spent : (sheet work out : List ℕ) (r : Report) (work′ out′ : List ℕ) → Solves reportOf sheet 0 work out r work′ out′
     → Accepted sheet → words ≤ length work → longest sheet ≤ length out → r ≡ record { number = 2; length = 0; trials = 0 }
 unfolding words
 budget-0-spent sheet work out r work′ out′ p a b c =
@@ -84,7 +84,7 @@ pub options-shorter : (list : List ℕ) (text : ℕ) → wellFormed list text �
 options-shorter list text w = steps-shorter list text (formed list text w)
 
 -- lent space for it, the maker of a row of an accepted sheet writes the list, and it is at the start of the space
-module _ (sheet : List ℕ) (row n : ℕ) (space : List ℕ) (r : MakerReport) (space′ : List ℕ) (p : Makes sheet row n space r space′) (m : Makeable sheet row n space) where
+module _ (sheet : List ℕ) (row n : ℕ) (space : List ℕ) (r : MakerReport) (space′ : List ℕ) (p : Makes (λ q. q) sheet row n space r space′) (m : Makeable sheet row n space) where
   none-refused : makerRefusal sheet row n (length space) ≡ 0
   none-refused = not-refused sheet row n (length space) (m .accepted) (m .in-sheet) (m .short) (m .room)
 
@@ -128,7 +128,7 @@ list-judged sheet row n space word work number work′ m f h p =
 -- 7,564 words: the list is written, each step in it leads only to shorter lengths, and the gate says yes exactly when the row derives the word,
 -- and else no.
 pub demand-3 : (sheet : List ℕ) (row n : ℕ) (space : List ℕ) (r : MakerReport) (space′ word work : List ℕ) (number : ℕ) (work′ : List ℕ)
-    → Makes sheet row n space r space′
+    → Makes (λ q. q) sheet row n space r space′
     → Gates (take (r .length) space′) (textOf sheet) word work number work′
     → Makeable sheet row n space → length word ≡ n → words ≤ length work
     → ListWritten sheet row n space r space′ × Judged sheet row word work number work′

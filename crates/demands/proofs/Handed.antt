@@ -10,7 +10,7 @@ use lib.ListN.{length, take}
 use lib.Seq.{take-append-seam}
 use borrow.Author.Tests.{eq-eqb, le-leb}
 use Rattle.paper.specs.Trailer.{countOf}
-use Rattle.paper.specs.Refusals.{Accepted}
+use Rattle.paper.specs.Refusals.{latest, Accepted}
 use Rattle.paper.specs.Rows.{Derives}
 use Rattle.paper.specs.Sheet.{textOf, grammarOf}
 use Rattle.paper.specs.Cuts.{cutList}
@@ -20,7 +20,8 @@ use Rattle.paper.proofs.Sound.{Sound}
 use Rattle.paper.proofs.Positions.{list-n}
 use Rattle.paper.proofs.Reading.{list-well-formed, list-reading}
 use Rattle.sheet.proofs.Contents.{rows-length}
-use Rattle.sheet.proofs.Soundness.{accepted-sound}
+use Rattle.sheet.proofs.Good.{good}
+use Rattle.sheet.proofs.Soundness.{good-sound}
 
 -- the list is what stands at the start of the space
 pub list-taken : (list space : List ℕ) → take (length list) (written list space) ≡ list
@@ -50,7 +51,7 @@ module _ (sheet : List ℕ) (row n : ℕ) (a : Accepted sheet) (b : row < countO
   list = cutList (grammarOf sheet) row n
 
   sound : Sound (grammarOf sheet)
-  sound = accepted-sound sheet a (omega arith)
+  sound = good-sound sheet (good latest sheet (omega arith) a) (omega arith)
 
   below : row < length (grammarOf sheet .rows)
   below = rw (rows-length sheet) b

@@ -1,10 +1,14 @@
 -- What a caller learns of each call, by the contract above its code, is the promise that the demands are about.
 -- Assumes nothing.
+use mathlib.Core.Path.{ap, _∙_}
 use denote.Ref.{now}
-use Rattle.paper.specs.Promises.{Solves, Makes, Gates}
+use Rattle.paper.specs.Answers.{reportOf}
+use Rattle.paper.specs.Promises.{says, Solves, Makes, Gates}
 use Rattle.solver.specs.Reported as solver
+use Rattle.solver.proofs.Coincide.{reports}
 use Rattle.solver.proofs.solve.Reads as solve
 use Rattle.maker.specs.Reported as maker
+use Rattle.maker.proofs.Coincide.{makes}
 use Rattle.maker.proofs.make.Reads as make
 use Rattle.gate.specs.Number.{numberOf}
 use Rattle.gate.proofs.gate.Reads as gate
@@ -12,12 +16,12 @@ use Rattle.gate.proofs.gate.Reads as gate
 -- a: what is passed, r: what is returned, e: what was passed as it is found at the return
 
 pub solve-promised : (κs : _) (a : _) (r : _) (e : _) → solve.Learnt κs a r e
-    → Solves (now (a .0)) (a .1 .0) (now (a .1 .1 .0)) (now (a .1 .1 .1 .0)) (solver.reported r) (now (e .1 .1 .0)) (now (e .1 .1 .1 .0))
-solve-promised κs a r e p = p
+    → Solves reportOf (now (a .0)) (a .1 .0) (now (a .1 .1 .0)) (now (a .1 .1 .1 .0)) (solver.reported r) (now (e .1 .1 .0)) (now (e .1 .1 .1 .0))
+solve-promised κs a r e p = record { said = ap solver.reported (p .said) ∙ reports (says (now (a .0)) (a .1 .0) (now (a .1 .1 .0)) (now (a .1 .1 .1 .0))); cleared = p .cleared; wrote = p .wrote }
 
 pub make-promised : (κs : _) (a : _) (r : _) (e : _) → make.Learnt κs a r e
-    → Makes (now (a .0)) (a .1 .0) (a .1 .1 .0) (now (a .1 .1 .1 .0)) (maker.reported r) (now (e .1 .1 .1 .0))
-make-promised κs a r e p = p
+    → Makes (λ q. q) (now (a .0)) (a .1 .0) (a .1 .1 .0) (now (a .1 .1 .1 .0)) (maker.reported r) (now (e .1 .1 .1 .0))
+make-promised κs a r e p = record { said = ap maker.reported (p .said) ∙ makes _ _ _ _; wrote = p .wrote }
 
 pub gate-promised : (κs : _) (a : _) (r : _) (e : _) → gate.Learnt κs a r e
     → Gates (now (a .0)) (now (a .1 .0)) (now (a .1 .1 .0)) (now (a .1 .1 .1 .0)) (numberOf r) (now (e .1 .1 .1 .0))

@@ -1,25 +1,23 @@
--- The claims, kind by kind, over a term's places as the code has them.
+-- A constant over a term's places as the code has them.
 use Prim.Native.Nat.{ℕ, suc, _+_, _-_, _<_, _≤_}
 use mathlib.Core.Path.{_≡_, refl, sym, ap, subst, _∙_}
 use mathlib.Core.Bool.{Bool, true, false, true≢false}
 use mathlib.Core.List.{List}
 use native.Mathlib.Omega.{arith}
-use borrow.Author.Tests.{eq-eqb, ne-eqb}
 use lib.ListN.{length, take, drop}
 use Rattle.paper.specs.Tests.{anyBelow}
 use Rattle.paper.specs.Rows.{stretch}
 use Rattle.paper.specs.Terms.{Place}
-use Rattle.paper.specs.Sheet.{Sheet, Derived, Contains, Equals, claimOf, sheetOf, grammarOf, textOf}
+use Rattle.paper.specs.Sheet.{Sheet, Contains, sheetOf, textOf}
 use Rattle.paper.specs.Decide.{fits}
 use Rattle.paper.specs.Opens.{pattern, canHold}
 use Rattle.paper.proofs.Tests.{any-intro, any-elim}
+use Rattle.sheet.proofs.Contents.{text-is}
 use Rattle.workspace.specs.Places.{placesIn}
 use Rattle.groundwork.specs.Ground.{Ground}
 use Rattle.chart.specs.Cells.{canHoldAll}
 use Rattle.chart.proofs.Owning.{text-held}
 use Rattle.terms.proofs.Showing.{places-length}
-
--- ---- a constant
 
 module _ (S : Sheet) (places : List ℕ) (a b : ℕ) where
   -- the constant stands at i
@@ -43,28 +41,9 @@ module _ (S : Sheet) (places : List ℕ) (a b : ℕ) where
           let n = places-length places in
           absurd (true≢false (sym (w .2) ∙ h (w .0) (omega (arith, w .1))))
 
--- ---- which claim a kind is
-
-module _ (kind a b : ℕ) where
-  pub claim-derived : kind ≡ 1 → claimOf kind a b ≡ Derived a
-  unfolding claimOf
-  claim-derived e = rw (eq-eqb kind 1 e)
-
-  pub claim-contains : kind ≡ 2 → claimOf kind a b ≡ Contains a b
-  unfolding claimOf
-  claim-contains e = rw (ne-eqb kind 1 (λ q. omega arith), eq-eqb kind 2 e)
-
-  pub claim-equals : kind ≡ 3 → claimOf kind a b ≡ Equals a b
-  unfolding claimOf
-  claim-equals e = rw (ne-eqb kind 1 (λ q. omega arith), ne-eqb kind 2 (λ q. omega arith))
-
-pub text-is : (s : List ℕ) → sheetOf s .grammar .text ≡ textOf s
-unfolding sheetOf grammarOf
-text-is s = refl
-
 -- the code's comparison of a stretch is the pattern's
 pub held-here : (s lay places : List ℕ) → Ground (sheetOf s) lay → (i a b : ℕ) → a + b ≤ length (textOf s) → i + b ≤ length places
-    → canHoldAll lay places i a (take b (drop a (textOf s))) ≡ fits (pattern (sheetOf s) (placesIn places)) i (stretch 0 (sheetOf s .grammar .text) a b)
+    → canHoldAll lay places i a (take b (drop a (textOf s))) ≡ stands (sheetOf s) places a b i
 held-here s lay places g i a b h k =
-    subst (λ (t : List ℕ). canHoldAll lay places i a (take b (drop a t)) ≡ fits (pattern (sheetOf s) (placesIn places)) i (stretch 0 (sheetOf s .grammar .text) a b)) (text-is s)
+    subst (λ (t : List ℕ). canHoldAll lay places i a (take b (drop a t)) ≡ stands (sheetOf s) places a b i) (text-is s)
     (text-held (sheetOf s) lay places g i a b (omega (arith, ap length (text-is s))) k)

@@ -6,22 +6,25 @@ ghost use Prim.Native.Nat.{_+_, _≤_, _<_};
 ghost use lib.ListN.{length, take};
 ghost use Rattle.paper.specs.Rows.{stretch};
 ghost use Rattle.paper.specs.Trailer.{countOf};
-ghost use Rattle.paper.specs.Refusals.{refusal};
 ghost use Rattle.paper.specs.Terms.{Place};
-ghost use Rattle.paper.specs.Sheet.{sheetOf, Contains, Derived, claimOf};
+ghost use Rattle.paper.specs.Sheet.{sheetOf, Contains, Derived};
 ghost use Rattle.paper.specs.Decide.{fits};
 ghost use Rattle.paper.specs.Opens.{pattern, canHold};
-ghost use Rattle.groundwork.specs.Ground.{Ground};
+ghost use Rattle.paper.proofs.Sound.{SoundClaim};
+ghost use Rattle.sheet_contents.specs.Read.{asClaim};
+ghost use Rattle.sheet.specs.Good.{Good};
 ghost use Rattle.workspace.specs.Places.{placesIn};
 ghost use Rattle.workspace.specs.Within.{Within};
+ghost use Rattle.groundwork.specs.Ground.{Ground};
+ghost use Rattle.groundwork.specs.Lent.{Lent};
 ghost use Rattle.chart.specs.Cells.{Charted};
 ghost use Rattle.terms.specs.Shown.{shown, Sized};
-ghost use Rattle.judge.specs.Judged.{Told};
 ghost use Rattle.judge.specs.Charts.{Charts, Left};
+use sheet_contents::Claim;
 
 // The places from i on can hold b bytes of the text from a on.
 fn holds_at(s: &[u8], a: usize, b: usize, places: &[u16], i: usize, lay: &[u64]) -> bool
-    requires { ⌜ (refusal (now s) ≡ 0) × Ground (sheetOf (now s)) (now lay) × (a + b ≤ countOf (now s) 1) × (i + b ≤ length (now places)) ⌝ }
+    requires { ⌜ Good (now s) × Ground (sheetOf (now s)) (now lay) × (a + b ≤ countOf (now s) 1) × (i + b ≤ length (now places)) ⌝ }
     ensures { λ r. ⌜ r ≡ fits (pattern (sheetOf (now (s .entry))) (placesIn (now (places .entry)))) i (stretch 0 (sheetOf (now (s .entry)) .grammar .text) a b) ⌝ }
 {
     let text = sheet::text_of(s);
@@ -31,7 +34,7 @@ fn holds_at(s: &[u8], a: usize, b: usize, places: &[u16], i: usize, lay: &[u64])
 
 // The places can hold them somewhere.
 fn can_contain(s: &[u8], a: usize, b: usize, places: &[u16], lay: &[u64]) -> bool
-    requires { ⌜ (refusal (now s) ≡ 0) × Ground (sheetOf (now s)) (now lay) × (a + b ≤ countOf (now s) 1) × (length (now places) ≤ 60) ⌝ }
+    requires { ⌜ Good (now s) × Ground (sheetOf (now s)) (now lay) × (a + b ≤ countOf (now s) 1) × (length (now places) ≤ 60) ⌝ }
     ensures { λ r. ⌜ ((u : List Place) → r ≡ canHold (sheetOf (now (s .entry))) (Contains a b) (placesIn (now (places .entry))) u) ⌝ }
 {
     let n = places.len();
@@ -47,10 +50,11 @@ fn can_contain(s: &[u8], a: usize, b: usize, places: &[u16], lay: &[u64]) -> boo
 
 // The row derives some filling of the places, whose chart is filled for it.
 fn can_derive(s: &[u8], row: usize, places: &[u16], lay: &[u64], work: &mut [u64]) -> bool
-    requires { ⌜ (refusal (now s) ≡ 0) × Ground (sheetOf (now s)) (now lay) × (row < countOf (now s) 2) × (length (now places) ≤ 60) × (7564 ≤ length (now work)) ⌝ }
+    requires { ⌜ Lent (now s) (now lay) (now work) × (row < countOf (now s) 2) × (length (now places) ≤ 60) ⌝ }
     ensures { λ r. ⌜ ((u : List Place) → r ≡ canHold (sheetOf (now (s .entry))) (Derived row) (placesIn (now (places .entry))) u) × Charted (now (s .entry)) (now (places .entry)) (now (work .entry)) (now (work .exit)) ⌝ }
 {
-    chart::fill(s, places, lay, work);
+    let rows = sheet_trailer::table_of(s, 2);
+    chart::fill(s, rows, places, lay, work);
     chart::derives(places.len(), row, work)
 }
 
@@ -64,7 +68,7 @@ fn derive_from(
     lay: &[u64],
     work: &mut [u64],
 ) -> bool
-    requires { ⌜ (refusal (now s) ≡ 0) × Ground (sheetOf (now s)) (now lay) × (row < countOf (now s) 2) × (len ≤ 60) × (len ≤ length (now of)) × (7564 ≤ length (now work)) × (have ≡ true → Charts (now s) (placesIn (take len (now of))) (now work)) ⌝ }
+    requires { ⌜ Lent (now s) (now lay) (now work) × (row < countOf (now s) 2) × (len ≤ 60) × (len ≤ length (now of)) × (have ≡ true → Charts (now s) (placesIn (take len (now of))) (now work)) ⌝ }
     ensures { λ r. ⌜ ((u : List Place) → r ≡ canHold (sheetOf (now (s .entry))) (Derived row) (placesIn (take len (now (of .entry)))) u) × Within (now (work .entry)) (now (work .exit)) × Charts (now (s .entry)) (placesIn (take len (now (of .entry)))) (now (work .exit)) ⌝ }
 {
     if have {
@@ -75,7 +79,7 @@ fn derive_from(
 
 // The first `len` places, for a constant.
 fn contain_from(s: &[u8], a: usize, b: usize, of: &[u16], len: usize, lay: &[u64]) -> bool
-    requires { ⌜ (refusal (now s) ≡ 0) × Ground (sheetOf (now s)) (now lay) × (a + b ≤ countOf (now s) 1) × (len ≤ 60) × (len ≤ length (now of)) ⌝ }
+    requires { ⌜ Good (now s) × Ground (sheetOf (now s)) (now lay) × (a + b ≤ countOf (now s) 1) × (len ≤ 60) × (len ≤ length (now of)) ⌝ }
     ensures { λ r. ⌜ ((u : List Place) → r ≡ canHold (sheetOf (now (s .entry))) (Contains a b) (placesIn (take len (now (of .entry)))) u) ⌝ }
 {
     can_contain(s, a, b, &of[0..len], lay)
@@ -84,20 +88,19 @@ fn contain_from(s: &[u8], a: usize, b: usize, of: &[u16], len: usize, lay: &[u64
 // The claim can be made to hold; `have` says that the workspace holds the chart of p already.
 pub fn can_hold(
     s: &[u8],
-    a: sheet::Assertion,
+    claim: Claim,
     p: terms::Places,
     q: terms::Places,
     have: bool,
     lay: &[u64],
     work: &mut [u64],
 ) -> bool
-    requires { ⌜ (refusal (now s) ≡ 0) × Ground (sheetOf (now s)) (now lay) × Told (now s) a × Sized p × Sized q × (7564 ≤ length (now work)) × (have ≡ true → Charts (now s) (shown p) (now work)) ⌝ }
-    ensures { λ r. ⌜ (r ≡ canHold (sheetOf (now (s .entry))) (claimOf (a .kind) (a .a) (a .b)) (shown p) (shown q)) × Left (now (s .entry)) (a .kind) (shown p) (now (work .entry)) (now (work .exit)) ⌝ }
+    requires { ⌜ Lent (now s) (now lay) (now work) × SoundClaim (countOf (now s) 1) (countOf (now s) 2) (countOf (now s) 3) (asClaim claim) × Sized p × Sized q × (have ≡ true → Charts (now s) (shown p) (now work)) ⌝ }
+    ensures { λ r. ⌜ (r ≡ canHold (sheetOf (now (s .entry))) (asClaim claim) (shown p) (shown q)) × Left (now (s .entry)) (asClaim claim) (shown p) (now (work .entry)) (now (work .exit)) ⌝ }
 {
-    let kind = a.kind;
-    match kind {
-        1 => derive_from(s, a.a, &p.of, p.len, have, lay, work),
-        2 => contain_from(s, a.a, a.b, &p.of, p.len, lay),
-        _ => terms::meets::equal(s, p, q),
+    match claim {
+        Claim::Derived(row) => derive_from(s, row, &p.of, p.len, have, lay, work),
+        Claim::Contains(a, b) => contain_from(s, a, b, &p.of, p.len, lay),
+        Claim::Equals(_, _) => terms::meets::equal(s, p, q),
     }
 }

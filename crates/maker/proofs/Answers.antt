@@ -9,8 +9,8 @@ use lib.ListN.{length}
 use borrow.Author.Tests.{eq-eqb, ne-eqb, lt-ltb, le-ltb, le-leb, lt-leb}
 use Rattle.paper.specs.Bytes.{u16, u32}
 use Rattle.paper.specs.Tests.{gather}
-use Rattle.paper.specs.Trailer.{countOf, offsetOf}
-use Rattle.paper.specs.Refusals.{refusal}
+use Rattle.paper.specs.Trailer.{countOf}
+use Rattle.paper.specs.Refusals.{latest, refusal, Accepted}
 use Rattle.paper.specs.Rows.{Grammar}
 use Rattle.paper.specs.Sheet.{grammarOf}
 use Rattle.paper.specs.Cuts.{groups, listTrailer, cutList}
@@ -18,15 +18,17 @@ use Rattle.paper.specs.Answers.{written, makerRefusal, makerSays, spaceAfter}
 use Rattle.paper.specs.Promises.{Makes}
 use Rattle.paper.proofs.Gathered.{gather-length}
 use Rattle.paper.proofs.Encoding.{length-u32, length-list}
-use Rattle.sheet.specs.declared.Trailer.{Trailer}
-use Rattle.sheet.specs.Readers.{trailerOf}
+use Rattle.numbers.specs.Put.{Put}
+use Rattle.numbers.proofs.Stores.{put-more, put-same, put-written}
+use Rattle.sheet_trailer.specs.declared.Table.{Table}
+use Rattle.sheet_trailer.specs.Tables.{TableOf}
+use Rattle.sheet.specs.declared.Fault.{Fault}
 use Rattle.sheet.proofs.Good.{good}
 use Rattle.maker_options.specs.Prepared.{Offsets, JobOf}
-use Rattle.maker_groups.specs.Parts.{Put, mark}
-use Rattle.maker_groups.proofs.Stores.{put-more, put-same, put-written}
+use Rattle.maker_groups.specs.Parts.{mark}
 use Rattle.maker.specs.declared.Made.the-variants.{Written, Refused}
 use Rattle.maker.specs.Trailer.{offsetBytes, endingBytes, trailerBytes}
-use Rattle.maker.specs.Reported.{reported}
+use Rattle.maker.specs.Reported.{made}
 
 -- ---- the trailer, and the whole list
 
@@ -58,38 +60,38 @@ list-length g root n = rw add-one (sym (length-list g root n))
 -- ---- the numbers
 
 module _ (s : List ℕ) (row n space : ℕ) where
-  pub refused-sheet : (refusal s ≡ 0 → ⊥) → makerRefusal s row n space ≡ refusal s
+  pub refused-sheet : (refusal latest s ≡ 0 → ⊥) → makerRefusal s row n space ≡ refusal latest s
   unfolding makerRefusal
-  refused-sheet h = rw (ne-eqb (refusal s) 0 h)
+  refused-sheet h = rw (ne-eqb (refusal latest s) 0 h)
 
-  module _ (a : refusal s ≡ 0) where
+  module _ (a : Accepted s) where
     pub refused-row : countOf s 2 ≤ row → makerRefusal s row n space ≡ 20
     unfolding makerRefusal
-    refused-row h = rw (eq-eqb (refusal s) 0 a, le-ltb row (countOf s 2) h)
+    refused-row h = rw (eq-eqb (refusal latest s) 0 a, le-ltb row (countOf s 2) h)
 
     module _ (b : row < countOf s 2) where
       pub refused-length : 60 < n → makerRefusal s row n space ≡ 21
       unfolding makerRefusal
-      refused-length h = rw (eq-eqb (refusal s) 0 a, lt-ltb row (countOf s 2) b, lt-leb n 60 h)
+      refused-length h = rw (eq-eqb (refusal latest s) 0 a, lt-ltb row (countOf s 2) b, lt-leb n 60 h)
 
       pub refused-space : n ≤ 60 → space < length (cutList (grammarOf s) row n) → makerRefusal s row n space ≡ 22
       unfolding makerRefusal
-      refused-space c h = rw (eq-eqb (refusal s) 0 a, lt-ltb row (countOf s 2) b, le-leb n 60 c, lt-leb (length (cutList (grammarOf s) row n)) space h)
+      refused-space c h = rw (eq-eqb (refusal latest s) 0 a, lt-ltb row (countOf s 2) b, le-leb n 60 c, lt-leb (length (cutList (grammarOf s) row n)) space h)
 
       pub not-refused : n ≤ 60 → length (cutList (grammarOf s) row n) ≤ space → makerRefusal s row n space ≡ 0
       unfolding makerRefusal
-      not-refused c h = rw (eq-eqb (refusal s) 0 a, lt-ltb row (countOf s 2) b, le-leb n 60 c, le-leb (length (cutList (grammarOf s) row n)) space h)
+      not-refused c h = rw (eq-eqb (refusal latest s) 0 a, lt-ltb row (countOf s 2) b, le-leb n 60 c, le-leb (length (cutList (grammarOf s) row n)) space h)
 
 -- ---- what is said, and what is left
 
 module _ (s : List ℕ) (row n : ℕ) (old : List ℕ) where
   -- a refusal reports its number and changes nothing
-  pub answer-refused : (k : ℕ) → makerRefusal s row n (length old) ≡ k → (k ≡ 0 → ⊥) → Makes s row n old (reported (Refused k)) old
+  pub answer-refused : (f : Fault) → makerRefusal s row n (length old) ≡ f .number → (f .number ≡ 0 → ⊥) → Makes made s row n old (Refused f) old
   unfolding makerSays spaceAfter
-  answer-refused k e h = record { said = rw (e, ne-eqb k 0 h); wrote = rw (e, ne-eqb k 0 h) }
+  answer-refused f e h = record { said = rw (e, ne-eqb (f .number) 0 h); wrote = rw (e, ne-eqb (f .number) 0 h) }
 
   pub answer-written : (k : ℕ) (now : List ℕ) → makerRefusal s row n (length old) ≡ 0 → k ≡ length (cutList (grammarOf s) row n) → now ≡ written (cutList (grammarOf s) row n) old
-      → Makes s row n old (reported (Written k)) now
+      → Makes made s row n old (Written k) now
   unfolding makerSays spaceAfter
   answer-written k now e h w = record { said = rw (e, h); wrote = rw e w }
 
@@ -100,19 +102,5 @@ written-list g root n rows p end offsets a b c x e h f k = put-written h (put-sa
 
 -- ---- the job of an accepted sheet
 
-trailer-rows : (s : List ℕ) (t : Trailer) → t ≡ trailerOf s → (t .rows ≡ countOf s 2) × (t .«rows_at» ≡ offsetOf s 2)
-unfolding trailerOf
-trailer-rows s t e = (ap (λ (r : Trailer). r .rows) e, ap (λ (r : Trailer). r .«rows_at») e)
-
-pub rows-count : (s : List ℕ) (t : Trailer) → t ≡ trailerOf s → t .rows ≡ countOf s 2
-rows-count s t e = trailer-rows s t e .0
-
-pub job-is : (s : List ℕ) (t : Trailer) (row n : ℕ) → t ≡ trailerOf s → refusal s ≡ 0 → row < t .rows → n ≤ 60 → JobOf s (record { at = t .«rows_at»; rows = t .rows; n = n })
-job-is s t row n e a h l = record {
-  accepted = a;
-  start = trailer-rows s t e .1;
-  count = rows-count s t e;
-  some = omega arith;
-  few = omega (arith, rows-count s t e, good s a .counts 2 (omega arith) .1);
-  short = l;
-}
+pub job-is : {s : List ℕ} {t : Table} (row n : ℕ) → Accepted s → TableOf s 2 t → row < t .count → n ≤ 60 → JobOf s (record { rows = t; n = n })
+job-is {s = s} row n a e h l = record { rows = record { good = good latest s (omega arith) a; table = e }; some = omega arith; short = l }

@@ -1,9 +1,14 @@
--- The paper's number and length of each answer of the maker.
+-- What is reported, as the maker's answer tells it; and the paper's number and length of each answer.
+use mathlib.Core.Bool.{cond}
+use lib.Dec.{eqb}
 use Rattle.paper.specs.Answers.{MakerReport}
 use Rattle.maker.specs.declared.Made.{Made}
 use Rattle.maker.specs.declared.Made.the-variants.{Written, Refused}
 
+abbrev pub made : MakerReport → Made
+made r = cond (eqb (r .number) 0) (Written (r .length)) (Refused (record { number = r .number }))
+
 -- 0 and the list's length, or the refusal's number and no length
 abbrev pub reported : Made → MakerReport
 reported (Written k) = record { number = 0; length = k }
-reported (Refused n) = record { number = n; length = 0 }
+reported (Refused f) = record { number = f .number; length = 0 }

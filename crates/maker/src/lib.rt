@@ -2,20 +2,21 @@
 ghost use Prim.Native.Nat.{_+_, _*_, _≤_, _<_};
 ghost use lib.ListN.{length};
 ghost use Rattle.paper.specs.Tests.{gather};
+ghost use Rattle.paper.specs.Refusals.{Accepted};
 ghost use Rattle.paper.specs.Promises.{Makes};
+ghost use Rattle.numbers.specs.Put.{Put};
 ghost use Rattle.maker_options.specs.Prepared.{JobOf};
-ghost use Rattle.maker_groups.specs.Parts.{Put};
 ghost use Rattle.maker.specs.Trailer.{offsetBytes, endingBytes, trailerBytes};
-ghost use Rattle.maker.specs.Reported.{reported};
+ghost use Rattle.maker.specs.Reported.{made};
 use maker_groups::bytes;
 use maker_options::Job;
 use maker_options::ready;
 use maker_options::sizes;
 
-// 0 with the list's length, or a refusal by its number.
+// 0 with the list's length, or a fault.
 pub enum Made {
     Written(usize),
-    Refused(u8),
+    Refused(sheet::Fault),
 }
 
 // The offsets of the groups 0 to n at o.
@@ -26,7 +27,7 @@ fn put_offsets(list: &mut [u8], o: usize, offsets: &[usize], n: usize) -> usize
     let mut p = o;
     let mut m = 0;
     while m <= n {
-        p = bytes::put_u32(list, p, offsets[m]);
+        p = numbers::put_u32(list, p, offsets[m]);
         m += 1;
     }
     p
@@ -35,20 +36,20 @@ fn put_offsets(list: &mut [u8], o: usize, offsets: &[usize], n: usize) -> usize
 // The trailer's last 16 bytes at o.
 fn put_ending(list: &mut [u8], o: usize, j: Job, root: usize, total: usize) -> usize
     requires { ⌜ (j .n ≤ 60) × (o + 16 ≤ length (now list)) ⌝ }
-    ensures { λ r. ⌜ Put (endingBytes root (j .rows) (j .n) total) o (now (list .entry)) (now (list .exit)) r ⌝ }
+    ensures { λ r. ⌜ Put (endingBytes root (j .rows .count) (j .n) total) o (now (list .entry)) (now (list .exit)) r ⌝ }
 {
-    let a = bytes::put_u16(list, o, root);
-    let b = bytes::put_u16(list, a, j.rows);
-    let c = bytes::put_pair(list, b, j.n as u8, 0);
-    let d = bytes::put_pair(list, c, 0, 0);
-    let e = bytes::put_u32(list, d, total);
+    let a = numbers::put_u16(list, o, root);
+    let b = numbers::put_u16(list, a, j.rows.count);
+    let c = numbers::put_pair(list, b, j.n as u8, 0);
+    let d = numbers::put_pair(list, c, 0, 0);
+    let e = numbers::put_u32(list, d, total);
     bytes::put_mark(list, e)
 }
 
 // The trailer at o.
 fn put_trailer(list: &mut [u8], o: usize, offsets: &[usize], j: Job, root: usize) -> usize
     requires { ⌜ (j .n ≤ 60) × (61 ≤ length (now offsets)) × (o + (4 * j .n + 20) ≤ length (now list)) ⌝ }
-    ensures { λ r. ⌜ Put (trailerBytes (now (offsets .entry)) root (j .rows) (j .n) (o + (4 * j .n + 20))) o (now (list .entry)) (now (list .exit)) r ⌝ }
+    ensures { λ r. ⌜ Put (trailerBytes (now (offsets .entry)) root (j .rows .count) (j .n) (o + (4 * j .n + 20))) o (now (list .entry)) (now (list .exit)) r ⌝ }
 {
     let p = put_offsets(list, o, offsets, j.n);
     put_ending(list, p, j, root, o + (4 * j.n + 20))
@@ -56,8 +57,8 @@ fn put_trailer(list: &mut [u8], o: usize, offsets: &[usize], j: Job, root: usize
 
 // 22, or the list, of an accepted sheet, a row of it and a length of at most 60.
 fn fill(s: &[u8], j: Job, root: usize, list: &mut [u8]) -> Made
-    requires { ⌜ JobOf (now s) j × (root < j .rows) ⌝ }
-    ensures { λ r. ⌜ Makes (now (s .entry)) root (j .n) (now (list .entry)) (reported r) (now (list .exit)) ⌝ }
+    requires { ⌜ Accepted (now s) × JobOf (now s) j × (root < j .rows .count) ⌝ }
+    ensures { λ r. ⌜ Makes made (now (s .entry)) root (j .n) (now (list .entry)) r (now (list .exit)) ⌝ }
 {
     let mut ws = [0u64; 1268];
     ready::prepare(s, j, &mut ws);
@@ -65,7 +66,7 @@ fn fill(s: &[u8], j: Job, root: usize, list: &mut [u8]) -> Made
     let end = sizes::measure(s, &ws, j, &mut offsets);
     let total = end + (4 * j.n + 20);
     if list.len() < total {
-        return Made::Refused(22);
+        return Made::Refused(sheet::by_number(22));
     }
     let p = maker_groups::put_groups(s, &ws, list, j);
     put_trailer(list, p, &offsets, j, root);
@@ -74,22 +75,21 @@ fn fill(s: &[u8], j: Job, root: usize, list: &mut [u8]) -> Made
 
 // The cut list of a sheet's row for the length n, at the start of the space lent.
 pub fn make(s: &[u8], row: u64, n: u64, list: &mut [u8]) -> Made
-    ensures { λ r. ⌜ Makes (now (s .entry)) row n (now (list .entry)) (reported r) (now (list .exit)) ⌝ }
+    ensures { λ r. ⌜ Makes made (now (s .entry)) row n (now (list .entry)) r (now (list .exit)) ⌝ }
 {
-    let fault = sheet::number(sheet::check(s));
-    if fault != 0 {
+    let fault = sheet::check(s);
+    if fault.number != 0 {
         return Made::Refused(fault);
     }
-    let t = sheet::trailer_of(s);
-    if row >= t.rows as u64 {
-        return Made::Refused(20);
+    let rows = sheet_trailer::table_of(s, 2);
+    if row >= rows.count as u64 {
+        return Made::Refused(sheet::by_number(20));
     }
     if n > 60 {
-        return Made::Refused(21);
+        return Made::Refused(sheet::by_number(21));
     }
     let j = Job {
-        at: t.rows_at,
-        rows: t.rows,
+        rows,
         n: n as usize,
     };
     fill(s, j, row as usize, list)

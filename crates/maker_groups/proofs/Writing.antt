@@ -11,9 +11,10 @@ use Rattle.paper.specs.Tests.{gather}
 use Rattle.paper.specs.Cuts.{Opt, Byte, Stretch, Split, Nil, splits, optionBytes, allBytes}
 use Rattle.paper.proofs.Gathered.{gather-suc}
 use Rattle.paper.proofs.Encoding.{length-options}
+use Rattle.numbers.specs.Put.{Put}
+use Rattle.numbers.proofs.Stores.{put-none, put-more, put-same}
 use Rattle.maker_options.proofs.Options.{splits-length}
-use Rattle.maker_groups.specs.Parts.{Put, optionFields}
-use Rattle.maker_groups.proofs.Stores.{put-none, put-more, put-same}
+use Rattle.maker_groups.specs.Parts.{fieldBytes}
 
 -- ---- one part more
 
@@ -47,20 +48,20 @@ module _ {o e : ℕ} {l now : List ℕ} where
   one : (x : Opt) → Put (optionBytes x) o l now e → Put (allBytes (x ∷ [])) o l now e
   one x h = put-same (sym (all-one x)) h
 
-  pub one-byte : (a b : ℕ) → Put (optionFields 1 0 a b) o l now e → Put (allBytes (Byte a b ∷ [])) o l now e
-  unfolding optionFields optionBytes
+  pub one-byte : (a b : ℕ) → Put (fieldBytes 1 0 a b) o l now e → Put (allBytes (Byte a b ∷ [])) o l now e
+  unfolding fieldBytes optionBytes
   one-byte a b h = one (Byte a b) h
 
-  pub one-stretch : (a b : ℕ) → Put (optionFields 2 0 a b) o l now e → Put (allBytes (Stretch a b ∷ [])) o l now e
-  unfolding optionFields optionBytes
+  pub one-stretch : (a b : ℕ) → Put (fieldBytes 2 0 a b) o l now e → Put (allBytes (Stretch a b ∷ [])) o l now e
+  unfolding fieldBytes optionBytes
   one-stretch a b h = one (Stretch a b) h
 
-  pub one-split : (k a b : ℕ) → Put (optionFields 3 k a b) o l now e → Put (allBytes (Split k a b ∷ [])) o l now e
-  unfolding optionFields optionBytes
+  pub one-split : (k a b : ℕ) → Put (fieldBytes 3 k a b) o l now e → Put (allBytes (Split k a b ∷ [])) o l now e
+  unfolding fieldBytes optionBytes
   one-split k a b h = one (Split k a b) h
 
-  pub one-nil : Put (optionFields 4 0 0 0) o l now e → Put (allBytes (Nil ∷ [])) o l now e
-  unfolding optionFields optionBytes
+  pub one-nil : Put (fieldBytes 4 0 0 0) o l now e → Put (allBytes (Nil ∷ [])) o l now e
+  unfolding fieldBytes optionBytes
   one-nil h = one Nil h
 
 -- ---- splits
@@ -80,7 +81,7 @@ splits-more k a b h =
 pub splits-start : (a b o : ℕ) (l : List ℕ) → Put (allBytes (splits 1 a b)) o l l o
 splits-start a b o l = put-same (ap allBytes (sym (splits-none a b))) (options-none o l)
 
-pub splits-turn : (k i j : ℕ) → 1 ≤ k → {o p e : ℕ} {a b c : List ℕ} → Put (allBytes (splits k i j)) o a b p → Put (optionFields 3 k i j) p b c e → Put (allBytes (splits (k + 1) i j)) o a c e
+pub splits-turn : (k i j : ℕ) → 1 ≤ k → {o p e : ℕ} {a b c : List ℕ} → Put (allBytes (splits k i j)) o a b p → Put (fieldBytes 3 k i j) p b c e → Put (allBytes (splits (k + 1) i j)) o a c e
 splits-turn k i j h x y = put-same (ap allBytes (sym (splits-more k i j h))) (options-more (splits k i j) (Split k i j ∷ []) x (one-split k i j y))
 
 pub splits-size : (m a b : ℕ) → length (allBytes (splits m a b)) ≡ 8 * (m - 1)

@@ -3,14 +3,14 @@ pub mod bytes;
 
 ghost use Prim.Native.Nat.{_+_, _-_, _*_, _≤_, _<_};
 ghost use lib.ListN.{length};
-ghost use Rattle.paper.specs.Rows.{rowOf};
 ghost use Rattle.paper.specs.Sheet.{grammarOf};
 ghost use Rattle.paper.specs.Cuts.{splits, ownOpts, options, allBytes, entry, group, groups};
+ghost use Rattle.numbers.specs.Put.{Put};
+ghost use Rattle.sheet_contents.specs.Read.{asRow};
 ghost use Rattle.maker_options.specs.Prepared.{Prepared};
-ghost use Rattle.maker_groups.specs.Parts.{Put};
-use bytes::OptionFields;
 use maker_options::Job;
 use maker_options::sizes;
+use sheet_contents::Row;
 
 // The options that part m bytes between the rows a and b, at o.
 fn put_splits(list: &mut [u8], o: usize, m: usize, a: usize, b: usize) -> usize
@@ -20,63 +20,34 @@ fn put_splits(list: &mut [u8], o: usize, m: usize, a: usize, b: usize) -> usize
     let mut p = o;
     let mut k = 1;
     while k < m {
-        p = bytes::put_option(
-            list,
-            p,
-            OptionFields {
-                kind: 3,
-                k: k as u8,
-                a,
-                b,
-            },
-        );
+        p = bytes::put_option(list, p, 3, k as u8, a, b);
         k += 1;
     }
     p
 }
 
-// The options that row q, given by its fields, gives by itself at length m, at o.
-fn put_own(list: &mut [u8], o: usize, f: sheet::Fields, m: usize, q: usize) -> usize
-    requires { ⌜ (1 ≤ f .kind) × (f .kind ≤ 6) × (1 ≤ m) × (m ≤ 60) × (o + 8 * length (ownOpts m q (rowOf (f .kind) (f .a) (f .b))) ≤ length (now list)) ⌝ }
-    ensures { λ r. ⌜ Put (allBytes (ownOpts m q (rowOf (f .kind) (f .a) (f .b)))) o (now (list .entry)) (now (list .exit)) r ⌝ }
+// The options that row q, given as a row, gives by itself at length m, at o.
+fn put_own(list: &mut [u8], o: usize, row: Row, m: usize, q: usize) -> usize
+    requires { ⌜ (1 ≤ m) × (m ≤ 60) × (o + 8 * length (ownOpts m q (asRow row)) ≤ length (now list)) ⌝ }
+    ensures { λ r. ⌜ Put (allBytes (ownOpts m q (asRow row))) o (now (list .entry)) (now (list .exit)) r ⌝ }
 {
-    let kind = f.kind;
-    let a = f.a;
-    let b = f.b;
-    match kind {
-        2 => {
+    match row {
+        Row::Empty => o,
+        Row::Range(low, high) => {
             if m == 1 {
-                return bytes::put_option(
-                    list,
-                    o,
-                    OptionFields {
-                        kind: 1,
-                        k: 0,
-                        a,
-                        b,
-                    },
-                );
+                return bytes::put_option(list, o, 1, 0, low, high);
             }
             o
         }
-        3 => {
-            if b == m {
-                return bytes::put_option(
-                    list,
-                    o,
-                    OptionFields {
-                        kind: 2,
-                        k: 0,
-                        a,
-                        b,
-                    },
-                );
+        Row::Text(off, len) => {
+            if len == m {
+                return bytes::put_option(list, o, 2, 0, off, len);
             }
             o
         }
-        5 => put_splits(list, o, m, a, b),
-        6 => put_splits(list, o, m, a, q),
-        _ => o,
+        Row::Alt(_, _) => o,
+        Row::Seq(a, b) => put_splits(list, o, m, a, b),
+        Row::Star(a) => put_splits(list, o, m, a, q),
     }
 }
 
@@ -89,7 +60,7 @@ pub struct Spot {
 
 // The options of row r at length m, at o.
 fn put_options(s: &[u8], ws: &[u64], list: &mut [u8], j: Job, t: Spot) -> usize
-    requires { ⌜ Prepared (now s) (now ws) j × (t .m ≤ j .n) × (t .r < j .rows) × (t .o + 8 * length (options (grammarOf (now s)) (t .m) (t .r)) ≤ length (now list)) ⌝ }
+    requires { ⌜ Prepared (now s) (now ws) j × (t .m ≤ j .n) × (t .r < j .rows .count) × (t .o + 8 * length (options (grammarOf (now s)) (t .m) (t .r)) ≤ length (now list)) ⌝ }
     ensures { λ e. ⌜ Put (allBytes (options (grammarOf (now (s .entry))) (t .m) (t .r))) (t .o) (now (list .entry)) (now (list .exit)) e ⌝ }
 {
     let m = t.m;
@@ -97,32 +68,23 @@ fn put_options(s: &[u8], ws: &[u64], list: &mut [u8], j: Job, t: Spot) -> usize
     let o = t.o;
     if m == 0 {
         if workspace::test(ws, 256, r) {
-            return bytes::put_option(
-                list,
-                o,
-                OptionFields {
-                    kind: 4,
-                    k: 0,
-                    a: 0,
-                    b: 0,
-                },
-            );
+            return bytes::put_option(list, o, 4, 0, 0, 0);
         }
         return o;
     }
     let mut p = o;
-    let mut q = sizes::next(ws, r, m, 0, j.rows);
-    while q < j.rows {
-        let f = sheet::row_at(s, j.at, q);
-        p = put_own(list, p, f, m, q);
-        q = sizes::next(ws, r, m, q + 1, j.rows);
+    let mut q = sizes::next(ws, r, m, 0, j.rows.count);
+    while q < j.rows.count {
+        let row = sheet::row_at(s, j.rows, q);
+        p = put_own(list, p, row, m, q);
+        q = sizes::next(ws, r, m, q + 1, j.rows.count);
     }
     p
 }
 
 // The head and the options of row r at length m, at o.
 fn put_entry(s: &[u8], ws: &[u64], list: &mut [u8], j: Job, t: Spot) -> usize
-    requires { ⌜ Prepared (now s) (now ws) j × (t .m ≤ j .n) × (t .r < j .rows) × (t .o + length (entry (grammarOf (now s)) (t .m) (t .r)) ≤ length (now list)) ⌝ }
+    requires { ⌜ Prepared (now s) (now ws) j × (t .m ≤ j .n) × (t .r < j .rows .count) × (t .o + length (entry (grammarOf (now s)) (t .m) (t .r)) ≤ length (now list)) ⌝ }
     ensures { λ e. ⌜ Put (entry (grammarOf (now (s .entry))) (t .m) (t .r)) (t .o) (now (list .entry)) (now (list .exit)) e ⌝ }
 {
     let count = sizes::option_count(s, ws, j, t.m, t.r);
@@ -137,7 +99,7 @@ fn put_group(s: &[u8], ws: &[u64], list: &mut [u8], j: Job, m: usize, o: usize) 
 {
     let mut p = o;
     let mut r = 0;
-    while r < j.rows {
+    while r < j.rows.count {
         p = put_entry(s, ws, list, j, Spot { m, r, o: p });
         r += 1;
     }

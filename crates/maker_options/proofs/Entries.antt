@@ -2,17 +2,18 @@
 -- Assumes nothing.
 use Prim.Native.Nat.{ℕ, _+_, _*_, _≤_, _<_}
 use mathlib.Core.Path.{_≡_, refl, _∙_}
-use mathlib.Core.Bool.{Bool, true, false, cond, not}
+use mathlib.Core.Bool.{Bool, true, false, not}
 use mathlib.Core.List.{List}
 use native.Mathlib.Omega.{arith}
 use lib.Dec.{eqb}
 use lib.ListN.{length}
-use Rattle.paper.specs.Rows.{Grammar, rowOf}
+use Rattle.paper.specs.Rows.{Grammar}
 use Rattle.paper.specs.Sheet.{grammarOf}
-use Rattle.workspace.specs.Bits.{setBit, putBit, wiped, copied}
+use Rattle.workspace.specs.Bits.{putBit, wiped, copied}
 use Rattle.workspace.proofs.Spans.{lt-or-le}
 use Rattle.workspace.proofs.Bits.{length-set-bit, set-bit-same, set-bit-other, set-bit-apart, length-wiped, wiped-bit, wiped-apart, copied-bit, copied-apart}
-use Rattle.sheet.specs.declared.Fields.{Fields}
+use Rattle.sheet_contents.specs.declared.Row.{Row}
+use Rattle.sheet_contents.specs.Read.{asRow}
 use Rattle.sheet.specs.Readers.{RowRead}
 use Rattle.rows.specs.Sets.{Nulls, Reached}
 use Rattle.maker_options.specs.Giving.{Gives, giving}
@@ -79,9 +80,9 @@ given-more g k rows old ws now h e x y = record {
 -- ---- all of it
 
 -- a row's count of options says whether it gives one
-pub giving-is : (s : List ℕ) (m q count : ℕ) (f : Fields) → RowRead s q f → Gives m (rowOf (f .kind) (f .a) (f .b)) count → not (eqb count 0) ≡ giving (grammarOf s) m q
+pub giving-is : (s : List ℕ) (m q count : ℕ) (r : Row) → RowRead s q r → Gives m (asRow r) count → not (eqb count 0) ≡ giving (grammarOf s) m q
 unfolding giving
-giving-is s m q count f x y = rw (← x .same, y q)
+giving-is s m q count r x y = rw (← x .same, y q)
 
 pub ready-is : (g : Grammar) (n rows : ℕ) (nulls reach a b c : List ℕ) → rows ≡ length (g .rows) → rows ≤ 256 → Nulls g nulls → Reached g reach → Turned reach rows rows a
     → b ≡ copied a 256 nulls 0 → Given g (n + 1) b c → Ready g n c

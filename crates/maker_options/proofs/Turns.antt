@@ -10,7 +10,7 @@ use native.Mathlib.Nat.{zero-add}
 use lib.ListN.{length, set, length-append}
 use lib.Seq.{getD-set-same, getD-set-other}
 use Rattle.paper.specs.Tests.{gather}
-use Rattle.paper.specs.Rows.{Grammar, rowOf}
+use Rattle.paper.specs.Rows.{Grammar}
 use Rattle.paper.specs.Sheet.{grammarOf}
 use Rattle.paper.specs.Cuts.{Nil, ownOpts, options, entry, group, groups}
 use Rattle.paper.proofs.Gathered.{gather-suc, gather-rises}
@@ -19,10 +19,11 @@ use Rattle.paper.proofs.Sound.{Sound}
 use Rattle.paper.proofs.Obeys.{options-few, group-most, groups-most}
 use Rattle.workspace.specs.Bits.{bitAt}
 use Rattle.workspace.proofs.Spans.{lt-or-le}
-use Rattle.sheet.specs.declared.Fields.{Fields}
+use Rattle.sheet_contents.specs.declared.Row.{Row}
+use Rattle.sheet_contents.specs.Read.{asRow}
 use Rattle.sheet.specs.Readers.{RowRead}
-use Rattle.sheet.proofs.Contents.{rows-length}
-use Rattle.sheet.proofs.Soundness.{accepted-sound}
+use Rattle.sheet.proofs.Rows.{rows-few, rows-all}
+use Rattle.sheet.proofs.Soundness.{good-sound}
 use Rattle.maker_options.specs.declared.Job.{Job}
 use Rattle.maker_options.specs.Giving.{fromBelow}
 use Rattle.maker_options.specs.Prepared.{JobOf, Prepared, chosen, Next, Offsets}
@@ -49,12 +50,9 @@ groups-none g = refl
 pub groups-more : (g : Grammar) (m : ℕ) → length (groups g (m + 1)) ≡ length (groups g m) + length (group g m)
 groups-more g m = rw add-one (length-groups g m)
 
-groups-rise : (g : Grammar) (a b : ℕ) → a ≤ b → length (groups g a) ≤ length (groups g b)
-unfolding groups
-groups-rise g a b h = gather-rises 0 a b (group g) h
-
 pub groups-inside : (g : Grammar) (m n : ℕ) → m ≤ n → length (groups g m) + length (group g m) ≤ length (groups g (n + 1))
-groups-inside g m n h = omega (arith, groups-more g m, groups-rise g (m + 1) (n + 1) (omega arith))
+unfolding groups
+groups-inside g m n h = omega (arith, groups-more g m, gather-rises 0 (m + 1) (n + 1) (group g) (omega arith))
 
 -- one group offset more
 pub offset-more : (g : Grammar) (m : ℕ) (offsets : List ℕ) (total : ℕ) → m < length offsets → total ≡ length (groups g m) → Offsets g m offsets → Offsets g (m + 1) (set offsets m total)
@@ -66,18 +64,19 @@ offset-more g m offsets total h e x = record {
 
 -- ---- a job's rows
 
-pub job-rows : (s : List ℕ) (j : Job) → JobOf s j → j .rows ≡ length (grammarOf s .rows)
-job-rows s j p = p .count ∙ sym (rows-length s)
+module _ {s : List ℕ} {j : Job} (p : JobOf s j) where
+  pub job-rows : j .rows .count ≡ length (grammarOf s .rows)
+  job-rows = rows-all (p .rows .table)
 
-job-sound : (s : List ℕ) (j : Job) → JobOf s j → Sound (grammarOf s)
-job-sound s j p = accepted-sound s (p .accepted) (omega (arith, p .some, p .count))
+  pub job-few : j .rows .count ≤ 256
+  job-few = rows-few (p .rows .good) (p .rows .table)
 
-module _ (s ws : List ℕ) (j : Job) (p : Prepared s ws j) where
-  pub rows-of : j .rows ≡ length (grammarOf s .rows)
-  rows-of = job-rows s j (p .job)
+  job-sound : Sound (grammarOf s)
+  job-sound = good-sound s (p .rows .good) (omega (arith, p .some, p .rows .table .counts))
 
+module _ {s ws : List ℕ} {j : Job} (p : Prepared s ws j) where
   sound : Sound (grammarOf s)
-  sound = job-sound s j (p .job)
+  sound = job-sound (p .job)
 
   pub options-bound : (m r : ℕ) → m ≤ j .n → length (options (grammarOf s) m r) ≤ 15104
   options-bound m r h = options-few (grammarOf s) sound m r (omega (arith, p .job .short))
@@ -88,14 +87,14 @@ module _ (s ws : List ℕ) (j : Job) (p : Prepared s ws j) where
   pub groups-bound : length (groups (grammarOf s) (j .n + 1)) ≤ 1887037440
   groups-bound = groups-most (grammarOf s) sound (j .n + 1) (omega (arith, p .job .short))
 
-  pub entry-within : (m r : ℕ) → r < j .rows → length (gather 0 r (entry (grammarOf s) m)) + length (entry (grammarOf s) m r) ≤ length (group (grammarOf s) m)
-  entry-within m r h = entry-inside (grammarOf s) m r (omega (arith, rows-of))
+  pub entry-within : (m r : ℕ) → r < j .rows .count → length (gather 0 r (entry (grammarOf s) m)) + length (entry (grammarOf s) m r) ≤ length (group (grammarOf s) m)
+  entry-within m r h = entry-inside (grammarOf s) m r (omega (arith, job-rows (p .job)))
 
   -- one entry more, counted
   pub count-more : (m r total c : ℕ) → total ≡ length (gather 0 r (entry (grammarOf s) m)) → c ≡ length (options (grammarOf s) m r) → total + (8 + 8 * c) ≡ length (gather 0 (r + 1) (entry (grammarOf s) m))
   count-more m r total c e f = omega (arith, entry-more (grammarOf s) m r, length-entry (grammarOf s) m r)
 
-  pub count-room : (m r total c : ℕ) → r < j .rows → m ≤ j .n → total ≡ length (gather 0 r (entry (grammarOf s) m)) → c ≡ length (options (grammarOf s) m r) → total + (8 + 8 * c) ≤ 30935040
+  pub count-room : (m r total c : ℕ) → r < j .rows .count → m ≤ j .n → total ≡ length (gather 0 r (entry (grammarOf s) m)) → c ≡ length (options (grammarOf s) m r) → total + (8 + 8 * c) ≤ 30935040
   count-room m r total c h u e f = omega (arith, entry-within m r h, length-entry (grammarOf s) m r, group-bound m u)
 
   module _ (m r : ℕ) where
@@ -109,41 +108,41 @@ module _ (s ws : List ℕ) (j : Job) (p : Prepared s ws j) where
 
     -- ---- the rows that are met, at a length of at least 1
 
-    module _ (low : 1 ≤ m) (high : m ≤ j .n) (inside : r < j .rows) where
+    module _ (low : 1 ≤ m) (high : m ≤ j .n) (inside : r < j .rows .count) where
       rows-in : r < length (grammarOf s .rows)
-      rows-in = omega (arith, rows-of)
+      rows-in = omega (arith, job-rows (p .job))
 
-      next-as : (a b : ℕ) → Next ws r m a (j .rows) b → Next ws r m a (length (grammarOf s .rows)) b
-      next-as a b h = rw rows-of at h
+      next-as : (a b : ℕ) → Next ws r m a (j .rows .count) b → Next ws r m a (length (grammarOf s .rows)) b
+      next-as a b h = rw (job-rows (p .job)) at h
 
-      pub met-first : (q : ℕ) → Next ws r m 0 (j .rows) q → fromBelow (grammarOf s) m r q ≡ []
+      pub met-first : (q : ℕ) → Next ws r m 0 (j .rows .count) q → fromBelow (grammarOf s) m r q ≡ []
       met-first q h = below-next (grammarOf s) (j .n) ws (p .ready) m r low high rows-in 0 q (next-as 0 q h) ∙ below-none (grammarOf s) m r
 
-      met-own : (q : ℕ) (f : Fields) → q < j .rows → chosen ws r m q ≡ true → RowRead s q f
-          → fromBelow (grammarOf s) m r (q + 1) ≡ fromBelow (grammarOf s) m r q ++ ownOpts m q (rowOf (f .kind) (f .a) (f .b))
-      met-own q f l e x = below-more (grammarOf s) (j .n) ws (p .ready) m r low high rows-in q (omega (arith, rows-of)) e ∙ rw (x .same)
+      met-own : (q : ℕ) (x : Row) → q < j .rows .count → chosen ws r m q ≡ true → RowRead s q x
+          → fromBelow (grammarOf s) m r (q + 1) ≡ fromBelow (grammarOf s) m r q ++ ownOpts m q (asRow x)
+      met-own q x l e h = below-more (grammarOf s) (j .n) ws (p .ready) m r low high rows-in q (omega (arith, job-rows (p .job))) e ∙ rw (h .same)
 
-      pub met-turn : (q t : ℕ) (f : Fields) → q < j .rows → chosen ws r m q ≡ true → RowRead s q f → Next ws r m (q + 1) (j .rows) t
-          → fromBelow (grammarOf s) m r t ≡ fromBelow (grammarOf s) m r q ++ ownOpts m q (rowOf (f .kind) (f .a) (f .b))
-      met-turn q t f l e x h = below-next (grammarOf s) (j .n) ws (p .ready) m r low high rows-in (q + 1) t (next-as (q + 1) t h) ∙ met-own q f l e x
+      pub met-turn : (q t : ℕ) (x : Row) → q < j .rows .count → chosen ws r m q ≡ true → RowRead s q x → Next ws r m (q + 1) (j .rows .count) t
+          → fromBelow (grammarOf s) m r t ≡ fromBelow (grammarOf s) m r q ++ ownOpts m q (asRow x)
+      met-turn q t x l e y h = below-next (grammarOf s) (j .n) ws (p .ready) m r low high rows-in (q + 1) t (next-as (q + 1) t h) ∙ met-own q x l e y
 
-      pub met-length : (q t : ℕ) (f : Fields) → q < j .rows → chosen ws r m q ≡ true → RowRead s q f → Next ws r m (q + 1) (j .rows) t
-          → length (fromBelow (grammarOf s) m r t) ≡ length (fromBelow (grammarOf s) m r q) + length (ownOpts m q (rowOf (f .kind) (f .a) (f .b)))
-      met-length q t f l e x h = ap length (met-turn q t f l e x h) ∙ length-append (fromBelow (grammarOf s) m r q) (ownOpts m q (rowOf (f .kind) (f .a) (f .b)))
+      pub met-length : (q t : ℕ) (x : Row) → q < j .rows .count → chosen ws r m q ≡ true → RowRead s q x → Next ws r m (q + 1) (j .rows .count) t
+          → length (fromBelow (grammarOf s) m r t) ≡ length (fromBelow (grammarOf s) m r q) + length (ownOpts m q (asRow x))
+      met-length q t x l e y h = ap length (met-turn q t x l e y h) ∙ length-append (fromBelow (grammarOf s) m r q) (ownOpts m q (asRow x))
 
-      pub met-all : (q : ℕ) → q ≤ j .rows → (q < j .rows → ⊥) → options (grammarOf s) m r ≡ fromBelow (grammarOf s) m r q
-      met-all q u v = below-done (grammarOf s) (j .n) ws (p .ready) m r low high rows-in q (omega (arith, rows-of))
+      pub met-all : (q : ℕ) → q ≤ j .rows .count → (q < j .rows .count → ⊥) → options (grammarOf s) m r ≡ fromBelow (grammarOf s) m r q
+      met-all q u v = below-done (grammarOf s) (j .n) ws (p .ready) m r low high rows-in q (omega (arith, job-rows (p .job)))
 
       -- a row's own options are among the row's options
-      pub met-inside : (q : ℕ) (f : Fields) → q < j .rows → chosen ws r m q ≡ true → RowRead s q f
-          → length (fromBelow (grammarOf s) m r q) + length (ownOpts m q (rowOf (f .kind) (f .a) (f .b))) ≤ length (options (grammarOf s) m r)
-      met-inside q f l e x =
+      pub met-inside : (q : ℕ) (x : Row) → q < j .rows .count → chosen ws r m q ≡ true → RowRead s q x
+          → length (fromBelow (grammarOf s) m r q) + length (ownOpts m q (asRow x)) ≤ length (options (grammarOf s) m r)
+      met-inside q x l e y =
           omega (
             arith,
-            ap length (met-own q f l e x),
-            length-append (fromBelow (grammarOf s) m r q) (ownOpts m q (rowOf (f .kind) (f .a) (f .b))),
-            below-rises (grammarOf s) m r (q + 1) (j .rows) (omega arith),
-            ap length (met-all (j .rows) (omega arith) (λ z. omega arith)),
+            ap length (met-own q x l e y),
+            length-append (fromBelow (grammarOf s) m r q) (ownOpts m q (asRow x)),
+            below-rises (grammarOf s) m r (q + 1) (j .rows .count) (omega arith),
+            ap length (met-all (j .rows .count) (omega arith) (λ z. omega arith)),
           )
 
 -- past the last row

@@ -5,13 +5,12 @@ use mathlib.Core.Logic.{_≢_}
 use mathlib.Core.Bool.{Bool, true, false, _&&_}
 use mathlib.Core.List.{List}
 use lib.ListN.{length, getD}
-use Rattle.paper.specs.Trailer.{offsetOf, countOf}
-use Rattle.paper.specs.Refusals.{refusal}
 use Rattle.paper.specs.Rows.{Grammar}
 use Rattle.paper.specs.Decide.{nullable, reaches}
 use Rattle.paper.specs.Sheet.{grammarOf}
 use Rattle.paper.specs.Cuts.{groups}
 use Rattle.workspace.specs.Bits.{bitAt}
+use Rattle.rows.specs.Sets.{RowsAt}
 use Rattle.maker_options.specs.declared.Job.{Job}
 use Rattle.maker_options.specs.Giving.{giving}
 
@@ -24,11 +23,8 @@ pub record Ready (g : Grammar) (n : ℕ) (ws : List ℕ) : Type 0 where
 
 -- the rows of an accepted sheet, and a list's length
 pub record JobOf (s : List ℕ) (j : Job) : Type 0 where
-  pub accepted : refusal s ≡ 0
-  pub start : j .at ≡ offsetOf s 2
-  pub count : j .rows ≡ countOf s 2
-  pub some : 0 < j .rows
-  pub few : j .rows ≤ 256
+  pub rows : RowsAt s (j .rows)
+  pub some : 0 < j .rows .count
   pub short : j .n ≤ 60
 
 -- with the table made of them

@@ -2,9 +2,10 @@
 pub mod ready;
 pub mod sizes;
 
-// Where the rows of an accepted sheet begin, how many there are, and the list's length.
+use sheet_trailer::Table;
+
+// Where the rows of an accepted sheet lie, and the list's length.
 pub struct Job {
-    pub at: usize,
-    pub rows: usize,
+    pub rows: Table,
     pub n: usize,
 }

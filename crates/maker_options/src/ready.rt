@@ -37,13 +37,13 @@ fn turn(from: &[u64], n: usize, ws: &mut [u64])
 // The rows that give an option by themselves at length m, into entry 256 + m.
 fn give(s: &[u8], j: Job, ws: &mut [u64], m: usize)
     requires { ⌜ JobOf (now s) j × (1 ≤ m) × (m ≤ 60) × (length (now ws) ≡ 1268) ⌝ }
-    ensures { λ _. ⌜ Entry (256 + m) (j .rows) (giving (grammarOf (now (s .entry))) m) (now (ws .entry)) (now (ws .exit)) ⌝ }
+    ensures { λ _. ⌜ Entry (256 + m) (j .rows .count) (giving (grammarOf (now (s .entry))) m) (now (ws .entry)) (now (ws .exit)) ⌝ }
 {
     workspace::wipe(ws, 256 + m);
     let mut q = 0;
-    while q < j.rows {
-        let f = sheet::row_at(s, j.at, q);
-        let count = sizes::own_count(f, m);
+    while q < j.rows.count {
+        let row = sheet::row_at(s, j.rows, q);
+        let count = sizes::own_count(row, m);
         workspace::put(ws, 256 + m, q, count != 0);
         q += 1;
     }
@@ -67,10 +67,10 @@ pub fn prepare(s: &[u8], j: Job, ws: &mut [u64])
     ensures { λ _. ⌜ Prepared (now (s .entry)) (now (ws .exit)) j ⌝ }
 {
     let mut nulls = [0u64; 4];
-    rows::nulls(s, j.at, j.rows, &mut nulls);
+    rows::nulls(s, j.rows, &mut nulls);
     let mut reach = [0u64; 1024];
-    rows::reach(s, j.at, j.rows, &nulls, &mut reach);
-    turn(&reach, j.rows, ws);
+    rows::reach(s, j.rows, &nulls, &mut reach);
+    turn(&reach, j.rows.count, ws);
     workspace::copy(ws, 256, &nulls, 0);
     give_all(s, j, ws);
 }

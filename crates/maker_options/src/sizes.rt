@@ -2,34 +2,36 @@
 ghost use mathlib.Core.Path.{_≡_};
 ghost use Prim.Native.Nat.{_+_, _*_, _≤_, _<_};
 ghost use lib.ListN.{length};
-ghost use Rattle.paper.specs.Rows.{rowOf};
 ghost use Rattle.paper.specs.Sheet.{grammarOf};
 ghost use Rattle.paper.specs.Cuts.{options, group, groups};
+ghost use Rattle.sheet_contents.specs.Read.{asRow};
 ghost use Rattle.maker_options.specs.Giving.{Gives};
 ghost use Rattle.maker_options.specs.Prepared.{Prepared, Next, Offsets};
 use super::Job;
+use sheet_contents::Row;
 
 // How many options a row gives by itself at length m, m at least 1.
-pub fn own_count(f: sheet::Fields, m: usize) -> usize
-    requires { ⌜ (1 ≤ f .kind) × (f .kind ≤ 6) × (1 ≤ m) ⌝ }
-    ensures { λ c. ⌜ Gives m (rowOf (f .kind) (f .a) (f .b)) c ⌝ }
+pub fn own_count(r: Row, m: usize) -> usize
+    requires { ⌜ 1 ≤ m ⌝ }
+    ensures { λ c. ⌜ Gives m (asRow r) c ⌝ }
 {
-    let kind = f.kind;
-    match kind {
-        2 => {
+    match r {
+        Row::Empty => 0,
+        Row::Range(_, _) => {
             if m == 1 {
                 return 1;
             }
             0
         }
-        3 => {
-            if f.b == m {
+        Row::Text(_, len) => {
+            if len == m {
                 return 1;
             }
             0
         }
-        5 | 6 => m - 1,
-        _ => 0,
+        Row::Alt(_, _) => 0,
+        Row::Seq(_, _) => m - 1,
+        Row::Star(_) => m - 1,
     }
 }
 
@@ -55,7 +57,7 @@ pub fn next(ws: &[u64], r: usize, m: usize, p: usize, n: usize) -> usize
 
 // How many options row r has at length m.
 pub fn option_count(s: &[u8], ws: &[u64], j: Job, m: usize, r: usize) -> usize
-    requires { ⌜ Prepared (now s) (now ws) j × (m ≤ j .n) × (r < j .rows) ⌝ }
+    requires { ⌜ Prepared (now s) (now ws) j × (m ≤ j .n) × (r < j .rows .count) ⌝ }
     ensures { λ c. ⌜ c ≡ length (options (grammarOf (now (s .entry))) m r) ⌝ }
 {
     if m == 0 {
@@ -65,11 +67,11 @@ pub fn option_count(s: &[u8], ws: &[u64], j: Job, m: usize, r: usize) -> usize
         return 0;
     }
     let mut c = 0;
-    let mut q = next(ws, r, m, 0, j.rows);
-    while q < j.rows {
-        let f = sheet::row_at(s, j.at, q);
-        c += own_count(f, m);
-        q = next(ws, r, m, q + 1, j.rows);
+    let mut q = next(ws, r, m, 0, j.rows.count);
+    while q < j.rows.count {
+        let row = sheet::row_at(s, j.rows, q);
+        c += own_count(row, m);
+        q = next(ws, r, m, q + 1, j.rows.count);
     }
     c
 }
@@ -81,7 +83,7 @@ fn group_length(s: &[u8], ws: &[u64], j: Job, m: usize) -> usize
 {
     let mut total = 0;
     let mut r = 0;
-    while r < j.rows {
+    while r < j.rows.count {
         total += 8 + 8 * option_count(s, ws, j, m, r);
         r += 1;
     }

@@ -1,8 +1,10 @@
-// Numbers and marks in a run of bytes, as sheets and cut lists have them.
+// Numbers and marks in a run of bytes, as sheets and cut lists have them: read, and written.
 ghost use mathlib.Core.Path.{_≡_};
+ghost use mathlib.Core.List.{[], _∷_};
 ghost use Prim.Native.Nat.{_+_, _≤_, _<_};
 ghost use lib.ListN.{length};
-ghost use Rattle.paper.specs.Bytes.{u16At, u32At, markAt};
+ghost use Rattle.paper.specs.Bytes.{u16At, u32At, markAt, u16, u32};
+ghost use Rattle.numbers.specs.Put.{Put};
 
 pub fn wide(x: u8) -> usize
     ensures { λ r. ⌜ (r ≡ x) × (r < 256) ⌝ }
@@ -41,4 +43,31 @@ pub fn mark_at(s: &[u8], o: usize, a: u8, b: u8, c: u8, d: u8) -> bool
         return false;
     }
     s[o + 3] == d
+}
+
+// Two bytes at o. Each writer hands back where it ended.
+pub fn put_pair(list: &mut [u8], o: usize, x: u8, y: u8) -> usize
+    requires { ⌜ o + 2 ≤ length (now list) ⌝ }
+    ensures { λ r. ⌜ Put (x ∷ y ∷ []) o (now (list .entry)) (now (list .exit)) r ⌝ }
+{
+    list[o] = x;
+    list[o + 1] = y;
+    o + 2
+}
+
+// A number's two bytes at o.
+pub fn put_u16(list: &mut [u8], o: usize, x: usize) -> usize
+    requires { ⌜ o + 2 ≤ length (now list) ⌝ }
+    ensures { λ r. ⌜ Put (u16 x) o (now (list .entry)) (now (list .exit)) r × (r ≡ o + 2) ⌝ }
+{
+    put_pair(list, o, (x % 256) as u8, (x / 256 % 256) as u8)
+}
+
+// A number's four bytes at o.
+pub fn put_u32(list: &mut [u8], o: usize, x: usize) -> usize
+    requires { ⌜ o + 4 ≤ length (now list) ⌝ }
+    ensures { λ r. ⌜ Put (u32 x) o (now (list .entry)) (now (list .exit)) r × (r ≡ o + 4) ⌝ }
+{
+    let p = put_u16(list, o, x % 65536);
+    put_u16(list, p, x / 65536)
 }

@@ -31,7 +31,7 @@ below-both a b n e = (ltb-true a n (and-left (ltb a n) (ltb b n) e), ltb-true b 
 module _ (rows text a b : ℕ) where
   row-kinds : (one two three four five six : Bool)
       → cond one (eqb a 0 && eqb b 0) (cond two (leb a b && leb b 255) (cond three (leb (a + b) text)
-        (cond four (ltb a rows && ltb b rows) (cond five (ltb a rows && ltb b rows) (cond six (ltb a rows && eqb b 0) false))))) ≡ true
+      (cond four (ltb a rows && ltb b rows) (cond five (ltb a rows && ltb b rows) (cond six (ltb a rows && eqb b 0) false))))) ≡ true
       → SoundRow text rows (cond one Empty (cond two (Range a b) (cond three (Text a b) (cond four (Alt a b) (cond five (Seq a b) (cond six (Star a) noRow))))))
   row-kinds true two three four five six e = tt
   row-kinds false true three four five six e = (leb-true a b (and-left (leb a b) (leb b 255) e), leb-true b 255 (and-right (leb a b) (leb b 255) e))

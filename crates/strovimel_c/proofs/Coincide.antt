@@ -1,27 +1,22 @@
 -- Two results that the promise of a C call allows coincide, and so do the buffers.
 -- Assumes nothing.
 use Prim.Native.Nat.{ℕ}
-use mathlib.Core.Path.{refl}
-use Rattle.paper.specs.Answers.{Report, MakerReport}
-use Rattle.paper.specs.Promises.{SolvesCoincide, MakesCoincide, GatesCoincide}
+use mathlib.Core.Path.{_≡_}
+use mathlib.Core.List.{List}
+use Rattle.paper.specs.Promises.{Solves, Makes, Gates}
 use Rattle.paper.proofs.Coincide as paper
 use Rattle.strovimel_c.specs.declared.Solved.{Solved}
 use Rattle.strovimel_c.specs.declared.Made.{Made}
-use Rattle.strovimel_c.specs.Structs.{solvedReport, madeReport}
+use Rattle.strovimel_c.specs.Structs.{solvedOf, madeOf}
 
--- the struct of a report
+pub solves-coincide : (sheet : List ℕ) (budget : ℕ) (work out : List ℕ) (r q : Solved) (work′ work″ out′ out″ : List ℕ)
+    → Solves solvedOf sheet budget work out r work′ out′ → Solves solvedOf sheet budget work out q work″ out″ → (r ≡ q) × (work′ ≡ work″) × (out′ ≡ out″)
+solves-coincide = paper.solves-coincide solvedOf
 
-abbrev solvedOf : Report → Solved
-solvedOf r = record { number = r .number; length = r .length; trials = r .trials }
+pub makes-coincide : (sheet : List ℕ) (row n : ℕ) (space : List ℕ) (r q : Made) (space′ space″ : List ℕ)
+    → Makes madeOf sheet row n space r space′ → Makes madeOf sheet row n space q space″ → (r ≡ q) × (space′ ≡ space″)
+makes-coincide = paper.makes-coincide madeOf
 
-abbrev madeOf : MakerReport → Made
-madeOf r = record { number = r .number; length = r .length }
-
-pub solves-coincide : SolvesCoincide solvedReport
-solves-coincide = paper.solves-coincide solvedReport solvedOf (λ r. refl)
-
-pub makes-coincide : MakesCoincide madeReport
-makes-coincide = paper.makes-coincide madeReport madeOf (λ r. refl)
-
-pub gates-coincide : GatesCoincide (λ (n : ℕ). n)
-gates-coincide = paper.gates-coincide (λ n. n) (λ n. n) (λ n. refl)
+pub gates-coincide : (list text word work : List ℕ) (k m : ℕ) (work′ work″ : List ℕ)
+    → Gates list text word work k work′ → Gates list text word work m work″ → (k ≡ m) × (work′ ≡ work″)
+gates-coincide = paper.gates-coincide

@@ -9,7 +9,7 @@ use borrow.Author.Tests.{ne-eqb}
 use lib.Dec.{eqb}
 use lib.ListN.{length}
 use Rattle.paper.specs.Trailer.{longest, countOf}
-use Rattle.paper.specs.Refusals.{refusal}
+use Rattle.paper.specs.Refusals.{latest, refusal}
 use Rattle.paper.specs.Sheet.{sheetOf, grammarOf}
 use Rattle.paper.specs.Cuts.{cutList}
 use Rattle.paper.specs.Answers.{Said, Found, None, Spent, Refused, reportOf, whether, under, walkOf, solverRefusal, solverSays, makerRefusal, makerSays}
@@ -18,7 +18,7 @@ use Rattle.paper.proofs.Meaning.{Means, answer-means}
 use Rattle.paper.proofs.Obeys.{list-most}
 use Rattle.workspace.proofs.Spans.{lt-or-le}
 use Rattle.sheet.proofs.Good.{good}
-use Rattle.sheet.proofs.Soundness.{accepted-sound}
+use Rattle.sheet.proofs.Soundness.{good-sound}
 use Rattle.solver.proofs.Solving.{says-sheet}
 use Rattle.maker.proofs.Answers.{refused-sheet, refused-row, refused-length}
 
@@ -38,11 +38,11 @@ word-short s budget (Refused n) m = absurd m
 pub word-fits : (s : List ℕ) (budget : ℕ) (work out : List ℕ) → reportOf (says s budget work out) .length < 4294967296
 unfolding solverSays
 word-fits s budget work out =
-    lt-or-le 0 (refusal s) (λ h. rw (says-sheet s budget work out (refusal s) refl h) (omega arith))
+    lt-or-le 0 (refusal latest s) (λ h. rw (says-sheet s budget work out (refusal latest s) refl (λ z. omega arith)) (omega arith))
     (λ h. either (eqb (solverRefusal s (length work) (length out)) 0) (omega (arith, h)))
   where
-    either : (b : Bool) → refusal s ≡ 0 → reportOf (whether b (under budget (walkOf (sheetOf s))) (Refused (solverRefusal s (length work) (length out)))) .length < 4294967296
-    either true e = omega (arith, word-short s budget (under budget (walkOf (sheetOf s))) (answer-means (sheetOf s) budget), good s e .short)
+    either : (b : Bool) → refusal latest s ≡ 0 → reportOf (whether b (under budget (walkOf (sheetOf s))) (Refused (solverRefusal s (length work) (length out)))) .length < 4294967296
+    either true e = omega (arith, word-short s budget (under budget (walkOf (sheetOf s))) (answer-means (sheetOf s) budget), good latest s (omega arith) e .short)
     either false e = omega arith
 
 -- ---- the list written
@@ -53,19 +53,19 @@ module _ (s : List ℕ) (row n space : ℕ) where
   unfolding makerSays
   refused-fits k e h = rw (e, ne-eqb k 0 (λ z. omega arith)) (omega arith)
 
-  written-fits : refusal s ≡ 0 → row < countOf s 2 → n ≤ 60 → makerSays s row n space .length < 4294967296
+  written-fits : refusal latest s ≡ 0 → row < countOf s 2 → n ≤ 60 → makerSays s row n space .length < 4294967296
   unfolding makerSays
   written-fits a b c = go (eqb (makerRefusal s row n space) 0)
     where
       go : (t : Bool) → cond t (length (cutList (grammarOf s) row n)) 0 < 4294967296
-      go true = list-most (grammarOf s) (accepted-sound s a (omega arith)) row n c
+      go true = list-most (grammarOf s) (good-sound s (good latest s (omega arith) a) (omega arith)) row n c
       go false = omega arith
 
   pub list-fits : makerSays s row n space .length < 4294967296
   list-fits =
-      lt-or-le 0 (refusal s) (λ h. refused-fits (refusal s) (refused-sheet s row n space (λ z. omega arith)) h)
+      lt-or-le 0 (refusal latest s) (λ h. refused-fits (refusal latest s) (refused-sheet s row n space (λ z. omega arith)) h)
       (λ h.
-      let a : refusal s ≡ 0 = omega arith in
+      let a : refusal latest s ≡ 0 = omega arith in
       lt-or-le row (countOf s 2)
       (λ b. lt-or-le 60 n (λ l. refused-fits 21 (refused-length s row n space a b l) (omega arith)) (λ l. written-fits a b l))
       (λ b. refused-fits 20 (refused-row s row n space a b) (omega arith)))

@@ -2,7 +2,7 @@
 -- Assumes nothing.
 use denote.Ref.{now}
 use Rattle.paper.specs.Promises.{Solves, Makes, Gates}
-use Rattle.strovimel_c.specs.Structs.{solvedReport, madeReport}
+use Rattle.strovimel_c.specs.Structs.{solvedOf, madeOf}
 use Rattle.strovimel_c.proofs.strovimel_solve.Reads as solve
 use Rattle.strovimel_c.proofs.strovimel_make.Reads as make
 use Rattle.strovimel_c.proofs.strovimel_gate.Reads as gate
@@ -10,11 +10,11 @@ use Rattle.strovimel_c.proofs.strovimel_gate.Reads as gate
 -- a: what is passed, r: what is returned, e: what was passed as it is found at the return
 
 pub solve-promised : (κs : _) (a : _) (r : _) (e : _) → solve.Learnt κs a r e
-    → Solves (now (a .0)) (a .1 .0) (now (a .1 .1 .0)) (now (a .1 .1 .1 .0)) (solvedReport r) (now (e .1 .1 .0)) (now (e .1 .1 .1 .0))
+    → Solves solvedOf (now (a .0)) (a .1 .0) (now (a .1 .1 .0)) (now (a .1 .1 .1 .0)) r (now (e .1 .1 .0)) (now (e .1 .1 .1 .0))
 solve-promised κs a r e p = p
 
 pub make-promised : (κs : _) (a : _) (r : _) (e : _) → make.Learnt κs a r e
-    → Makes (now (a .0)) (a .1 .0) (a .1 .1 .0) (now (a .1 .1 .1 .0)) (madeReport r) (now (e .1 .1 .1 .0))
+    → Makes madeOf (now (a .0)) (a .1 .0) (a .1 .1 .0) (now (a .1 .1 .1 .0)) r (now (e .1 .1 .1 .0))
 make-promised κs a r e p = p
 
 pub gate-promised : (κs : _) (a : _) (r : _) (e : _) → gate.Learnt κs a r e

@@ -3,8 +3,11 @@ use Rattle.paper.specs.Answers.{Said, Report, reportOf, MakerReport}
 use Rattle.strovimel_c.specs.declared.Solved.{Solved}
 use Rattle.strovimel_c.specs.declared.Made.{Made}
 
+abbrev pub structOf : Report → Solved
+structOf r = record { number = r .number; length = r .length; trials = r .trials }
+
 abbrev pub solvedOf : Said → Solved
-solvedOf a = let r = reportOf a in record { number = r .number; length = r .length; trials = r .trials }
+solvedOf a = structOf (reportOf a)
 
 abbrev pub solvedReport : Solved → Report
 solvedReport r = record { number = r .number; length = r .length; trials = r .trials }

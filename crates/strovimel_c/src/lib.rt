@@ -2,9 +2,9 @@
 ghost use mathlib.Core.Path.{_≡_};
 ghost use Prim.Native.Nat.{_<_};
 ghost use Rattle.paper.specs.Promises.{Solves, Makes, Gates};
-ghost use Rattle.solver.specs.Reported.{refused, reported};
+ghost use Rattle.solver.specs.Reported.{reported};
 ghost use Rattle.maker.specs.Reported.{reported as making};
-ghost use Rattle.strovimel_c.specs.Structs.{solvedReport, madeReport};
+ghost use Rattle.strovimel_c.specs.Structs.{solvedOf, solvedReport, madeOf, madeReport};
 
 // The solver's answer: its number, the word's length, the trials.
 #[repr(C)]

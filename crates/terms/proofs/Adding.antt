@@ -1,96 +1,65 @@
--- One part behind the places that are there, kind by kind.
+-- One part behind the places that are there, part by part.
 use Prim.Native.Nat.{ℕ, _+_, _<_, _≤_}
-use mathlib.Core.Path.{_≡_, refl, sym, ap, subst, _∙_}
-use mathlib.Core.Bool.{true}
+use mathlib.Core.Path.{_≡_, refl, ap, _∙_}
 use mathlib.Core.List.{List, _++_}
 use native.Mathlib.Omega.{arith}
-use borrow.Author.Tests.{leb-true, eq-eqb, ne-eqb}
+use borrow.Author.Tests.{leb-true}
 use lib.ListN.{length, getD, take, drop}
-use lib.Seq.{length-take-le, getD-take, getD-drop}
-use Rattle.paper.specs.Terms.{Known, Part, Const, All, Cut, partOf, piece, cutInside}
+use lib.Seq.{take-all, getD-take, getD-drop}
+use Rattle.paper.specs.Terms.{Place, Known, Part, Const, All, Cut, piece, fullLength, cutInside}
+use Rattle.workspace.specs.Places.{placesIn}
 use Rattle.terms.specs.declared.Places.{Places}
-use Rattle.terms.specs.Shown.{shown, Sized, Bytes, pastedOf, partBytes, Fitting}
-use Rattle.terms.proofs.Showing.{pasted-shown, pasted-sized, text-known, cut-shown, part-length}
+use Rattle.terms.specs.Shown.{shown, Sized, Bytes, pastedOf, Fitting, Added}
+use Rattle.terms.proofs.Showing.{shown-length, pasted-shown, pasted-sized, text-known, cut-shown, part-length}
 
-module _ (kind a b : ℕ) where
-  part-const : kind ≡ 1 → partOf kind a b ≡ Const a b
-  unfolding partOf
-  part-const e = rw (eq-eqb kind 1 e)
+module _ (p v : Places) where
+  pub room-const : {a b : ℕ} → Fitting p v (Const a b) → p .len + b ≤ 60
+  unfolding fullLength
+  room-const fit = fit .room
 
-  part-all : kind ≡ 2 → partOf kind a b ≡ All
-  unfolding partOf
-  part-all e = rw (ne-eqb kind 1 (λ q. omega arith), eq-eqb kind 2 e)
+  pub room-all : Fitting p v All → p .len + v .len ≤ 60
+  unfolding fullLength
+  room-all fit = fit .room
 
-  part-cut : kind ≡ 3 → partOf kind a b ≡ Cut a b
-  unfolding partOf
-  part-cut e = rw (ne-eqb kind 1 (λ q. omega arith), ne-eqb kind 2 (λ q. omega arith))
+  pub room-cut : {a b : ℕ} → Fitting p v (Cut a b) → p .len + b ≤ 60
+  unfolding fullLength
+  room-cut fit = fit .room
 
-module _ (text : List ℕ) (p v : Places) where
-  -- the part x has been added
-  pub record Added (x : Part) (r : Places) : Type 0 where
-    pub same : shown r ≡ shown p ++ piece Known text (shown v) x
-    pub sized : Sized r
-    pub len : r .len ≡ p .len + partBytes (v .len) x
+  pub within-cut : {a b : ℕ} → Fitting p v (Cut a b) → a + b ≤ v .len
+  unfolding cutInside
+  within-cut fit = leb-true _ _ (fit .within)
 
-  module _ (zp : Sized p) (zv : Sized v) (kind a b : ℕ) (fit : Fitting p v (partOf kind a b)) (r : Places) where
-    pub room-const : kind ≡ 1 → p .len + b ≤ 60
-    unfolding partBytes
-    room-const e = rw (part-const kind a b e) at (fit .room)
+module _ (text : List ℕ) (p v : Places) (zp : Sized p) (zv : Sized v) (r : Places) where
+  -- the numbers m, which are the part x, behind p
+  pasted : (x : Part) (m : List ℕ) → Fitting p v x → placesIn m ≡ piece Known text (shown v) x → length m ≡ fullLength (v .len) x
+      → ((i : ℕ) → i < length m → getD m i 0 ≤ 256) → r ≡ pastedOf p m → Added text p v x r
+  unfolding pastedOf
+  pasted x m fit is n small e =
+      let room = fit .room in
+      rw e (record {
+        same = pasted-shown p m zp (omega arith) ∙ ap (λ (t : List Place). shown p ++ t) is;
+        sized = pasted-sized p m zp (omega arith) small;
+        len = ap (λ (k : ℕ). p .len + k) n;
+      })
 
-    pub room-all : kind ≡ 2 → p .len + v .len ≤ 60
-    unfolding partBytes
-    room-all e = rw (part-all kind a b e) at (fit .room)
+  -- b places of v from a on are a part of b places
+  of-v : (x : Part) (a b : ℕ) → Fitting p v x → a + b ≤ v .len → take b (drop a (shown v)) ≡ piece Known text (shown v) x → b ≡ fullLength (v .len) x
+      → r ≡ pastedOf p (take b (drop a (v .of))) → Added text p v x r
+  of-v x a b fit h is n e =
+      let u = zv .room in
+      let w = zv .long in
+      let l = part-length (v .of) a b (omega arith) in
+      pasted x (take b (drop a (v .of))) fit (cut-shown v a b h ∙ is) (l ∙ n)
+      (λ i k. rw (getD-take b (drop a (v .of)) i 0 (omega arith), getD-drop a (v .of) i 0) (zv .small (a + i) (omega arith))) e
 
-    pub room-cut : kind ≡ 3 → p .len + b ≤ 60
-    unfolding partBytes
-    room-cut e = rw (part-cut kind a b e) at (fit .room)
+  pub add-const : (a b : ℕ) → Fitting p v (Const a b) → a + b ≤ length text → r ≡ pastedOf p (take b (drop a text)) → Bytes (take b (drop a text)) → Added text p v (Const a b) r
+  unfolding piece fullLength
+  add-const a b fit h e y = pasted (Const a b) (take b (drop a text)) fit (text-known text a b h y) (part-length text a b h) (λ i l. omega (arith, y i l)) e
 
-    pub within-cut : kind ≡ 3 → a + b ≤ v .len
-    unfolding cutInside
-    within-cut e = leb-true (a + b) (v .len) (rw (part-cut kind a b e) at (fit .within))
+  pub add-all : Fitting p v All → r ≡ pastedOf p (take (v .len) (v .of)) → Added text p v All r
+  unfolding piece fullLength
+  add-all fit e = of-v All 0 (v .len) fit (omega arith) (take-all (v .len) (shown v) (omega (arith, shown-length v zv))) refl e
 
-    pub add-const : kind ≡ 1 → a + b ≤ length text → r ≡ pastedOf p (take b (drop a text)) → Bytes (take b (drop a text)) → Added (partOf kind a b) r
-    unfolding piece partBytes pastedOf
-    add-const k h e y =
-        let n = part-length text a b h in
-        let m = room-const k in
-        rw (part-const kind a b k, e) (record {
-          same = pasted-shown p (take b (drop a text)) zp (omega arith) ∙ rw (text-known text a b h y);
-          sized = pasted-sized p (take b (drop a text)) zp (omega arith) (λ i l. omega (arith, y i l));
-          len = ap (λ (k : ℕ). p .len + k) n;
-        })
-
-    -- b places of v from a on
-    of-v : a + b ≤ v .len → p .len + b ≤ 60 → (i : ℕ) → i < length (take b (drop a (v .of))) → getD (take b (drop a (v .of))) i 0 ≤ 256
-    of-v h m i l =
-        let u = zv .room in
-        let w = zv .long in
-        let n = part-length (v .of) a b (omega arith) in
-        rw (getD-take b (drop a (v .of)) i 0 (omega arith), getD-drop a (v .of) i 0) (zv .small (a + i) (omega arith))
-
-    pub add-cut : kind ≡ 3 → r ≡ pastedOf p (take b (drop a (v .of))) → Added (partOf kind a b) r
-    unfolding piece partBytes pastedOf
-    add-cut k e =
-        let u = zv .room in
-        let w = zv .long in
-        let h = within-cut k in
-        let m = room-cut k in
-        let n = part-length (v .of) a b (omega arith) in
-        rw (part-cut kind a b k, e) (record {
-          same = pasted-shown p (take b (drop a (v .of))) zp (omega arith) ∙ rw (cut-shown v a b zv h);
-          sized = pasted-sized p (take b (drop a (v .of))) zp (omega arith) (of-v h m);
-          len = ap (λ (k : ℕ). p .len + k) n;
-        })
-
-    pub add-all : kind ≡ 2 → r ≡ pastedOf p (take (v .len) (v .of)) → Added (partOf kind a b) r
-    unfolding piece partBytes pastedOf shown
-    add-all k e =
-        let u = zv .room in
-        let w = zv .long in
-        let m = room-all k in
-        let n = length-take-le (v .len) (v .of) (omega arith) in
-        rw (part-all kind a b k, e) (record {
-          same = pasted-shown p (take (v .len) (v .of)) zp (omega arith);
-          sized = pasted-sized p (take (v .len) (v .of)) zp (omega arith) (λ i l. rw (getD-take (v .len) (v .of) i 0 (omega arith)) (zv .small i (omega arith)));
-          len = ap (λ (k : ℕ). p .len + k) n;
-        })
+  pub add-cut : (a b : ℕ) → Fitting p v (Cut a b) → r ≡ pastedOf p (take b (drop a (v .of))) → Added text p v (Cut a b) r
+  unfolding piece fullLength
+  add-cut a b fit e = of-v (Cut a b) a b fit (within-cut p v fit) refl refl e

@@ -1,51 +1,28 @@
 -- Places compared one by one.
-use Prim.Native.Nat.{ℕ, zero, suc, _+_, _<_, _≤_}
+use Prim.Native.Nat.{ℕ, _<_, _≤_}
 use mathlib.Core.Path.{_≡_, refl, sym, ap, _∙_}
-use mathlib.Core.Bool.{Bool, true, false, cond, _&&_, true≢false}
+use mathlib.Core.Bool.{Bool, true, false, true≢false}
 use mathlib.Core.Logic.{_≢_}
-use mathlib.Core.List.{List, [], _∷_, map}
+use mathlib.Core.List.{List}
 use native.Mathlib.Omega.{arith}
+use native.Mathlib.Decide.{decLt}
 use borrow.Author.Tests.{lt-ltb, le-ltb, eq-eqb, ne-eqb}
-use lib.Dec.{eqb, ltb}
-use lib.ListN.{length, getD, take, List·getD-map}
+use lib.Dec.{eqb}
+use lib.ListN.{length, getD, take}
 use lib.Seq.{length-take-le, getD-take}
 use Rattle.paper.specs.Bytes.{u8At}
 use Rattle.paper.specs.Tests.{anyBelow, allBelow, anyOf}
-use Rattle.paper.specs.Refusals.{refusal}
-use Rattle.paper.specs.Terms.{Place, Known, Unknown}
+use Rattle.paper.specs.Terms.{Unknown}
 use Rattle.paper.specs.Sheet.{Sheet, sheetOf, letter, Equals}
 use Rattle.paper.specs.Opens.{allows, meet, isUnknown, canHold}
-use Rattle.paper.proofs.Tests.{any-of-below, any-intro, any-elim, all-intro, all-elim, and-intro, same-test}
+use Rattle.paper.proofs.Tests.{any-of-below, any-intro, any-elim, all-intro, all-elim, and-intro}
+use Rattle.sheet.specs.Good.{Good}
 use Rattle.sheet.proofs.Contents.{some-letter}
-use Rattle.workspace.specs.Places.{placeOf, placesIn}
+use Rattle.workspace.specs.Places.{placeOf}
+use Rattle.workspace.proofs.Places.{place-known, place-unknown, places-at}
 use Rattle.terms.specs.declared.Places.{Places}
 use Rattle.terms.specs.Shown.{shown, Sized}
-use Rattle.terms.proofs.Showing.{places-length}
-
-module _ (x : ℕ) where
-  place-known : x < 256 → placeOf x ≡ Known x
-  unfolding placeOf
-  place-known h = rw (lt-ltb x 256 h)
-
-  place-unknown : 256 ≤ x → placeOf x ≡ Unknown
-  unfolding placeOf
-  place-unknown h = rw (le-ltb x 256 h)
-
-pub shown-length : (p : Places) → Sized p → length (shown p) ≡ p .len
-unfolding shown
-shown-length p z =
-    let r = z .room in
-    let l = z .long in
-    places-length (take (p .len) (p .of)) ∙ length-take-le (p .len) (p .of) (omega arith)
-
-places-at : (s : List ℕ) (i : ℕ) → i < length s → getD (placesIn s) i Unknown ≡ placeOf (getD s i 0)
-unfolding placesIn
-places-at s i h = go s i h
-  where
-    go : (s : List ℕ) (i : ℕ) → i < length s → getD (map placeOf s) i Unknown ≡ placeOf (getD s i 0)
-    go [] i h = absurd (omega arith)
-    go (x ∷ s) zero h = refl
-    go (x ∷ s) (suc i) h = go s i (omega arith)
+use Rattle.terms.proofs.Showing.{shown-length}
 
 pub shown-at : (p : Places) (i : ℕ) → Sized p → i < p .len → getD (shown p) i Unknown ≡ placeOf (getD (p .of) i 0)
 unfolding shown
@@ -59,7 +36,7 @@ shown-at p i z h =
 
 unknown-is : (x : ℕ) → x ≤ 256 → isUnknown (placeOf x) ≡ eqb x 256
 unfolding isUnknown placeOf
-unknown-is x h = go (native.Mathlib.Decide.decLt x 256)
+unknown-is x h = go (decLt x 256)
   where
     go : Dec (x < 256) → isUnknown (placeOf x) ≡ eqb x 256
     go (yes l) = rw (lt-ltb x 256 l, ne-eqb x 256 (λ e. omega arith))
@@ -89,7 +66,7 @@ module _ (p : Places) (z : Sized p) where
 
 -- ---- two places
 
-module _ (s : List ℕ) (ok : refusal s ≡ 0) (x y : ℕ) where
+module _ (s : List ℕ) (g : Good s) (x y : ℕ) where
   pub meet-known : x < 256 → y < 256 → eqb x y ≡ meet (sheetOf s) (placeOf x) (placeOf y)
   unfolding meet allows
   meet-known a b = rw (place-known x a, place-known y b)
@@ -105,7 +82,7 @@ module _ (s : List ℕ) (ok : refusal s ≡ 0) (x y : ℕ) where
   pub meet-none : ((i : ℕ) → u8At s i < 256) → 256 ≤ x → 256 ≤ y → true ≡ meet (sheetOf s) (placeOf x) (placeOf y)
   unfolding meet
   meet-none h a b =
-      let w = some-letter s h ok in
+      let w = some-letter s h g in
       rw (place-unknown x a, place-unknown y b) (sym (any-intro 256 (letter (sheetOf s)) (w .0) (w .1) (w .2)))
 
 -- ---- two terms

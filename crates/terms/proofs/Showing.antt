@@ -1,17 +1,14 @@
--- What a pasted `Places` stands for.
+-- What a `Places` stands for: made of bytes, pasted to, cut.
 use Prim.Native.Nat.{ℕ, zero, suc, _+_, _-_, _<_, _≤_}
 use mathlib.Core.Path.{_≡_, refl, sym, ap, _∙_}
-use mathlib.Core.Bool.{Bool, true, false, cond}
 use mathlib.Core.List.{List, [], _∷_, _++_, map}
 use native.Mathlib.Omega.{arith}
-use native.Mathlib.Nat.{zero-add}
-use native.Mathlib.Decide.{decLt}
 use borrow.Author.Tests.{lt-ltb}
-use lib.Dec.{ltb}
 use lib.ListN.{length, getD, take, drop, replicate, length-map, length-drop}
-use lib.Seq.{paste, take-paste, length-paste, length-take-le, getD-drop, drop-cons, take-take}
+use lib.Seq.{paste, take-paste, length-paste, length-take-le, take-length, take-append-add, take-take, getD-drop}
 use Rattle.paper.specs.Rows.{stretch}
 use Rattle.paper.specs.Terms.{Place, Known, Unknown, placesOf}
+use Rattle.paper.proofs.Derivation.{stretch-part}
 use Rattle.workspace.specs.Places.{placeOf, placesIn}
 use Rattle.terms.specs.declared.Places.{Places}
 use Rattle.terms.specs.Shown.{shown, Sized, Bytes, pastedOf}
@@ -45,17 +42,22 @@ pub places-length : (s : List ℕ) → length (placesIn s) ≡ length s
 unfolding placesIn
 places-length s = length-map s placeOf
 
+pub shown-length : (p : Places) → Sized p → length (shown p) ≡ p .len
+unfolding shown
+shown-length p z =
+    let r = z .room in
+    let l = z .long in
+    places-length (take (p .len) (p .of)) ∙ length-take-le (p .len) (p .of) (omega arith)
+
+-- ---- pasted to
+
 -- a pasted run stands behind what was there
 pub pasted-shown : (p : Places) (s : List ℕ) → Sized p → p .len + length s ≤ 60 → shown (pastedOf p s) ≡ shown p ++ placesIn s
 unfolding shown pastedOf
 pasted-shown p s z h =
     let l = z .long in
     let r = z .room in
-    rw (take-paste (p .of) (p .len) s (length s) (omega arith) (omega arith)) (places-append (take (p .len) (p .of)) (take (length s) s) ∙ rw (take-all-of s))
-  where
-    take-all-of : (t : List ℕ) → take (length t) t ≡ t
-    take-all-of [] = refl
-    take-all-of (x ∷ t) = ap (λ (u : List ℕ). x ∷ u) (take-all-of t)
+    rw (take-paste (p .of) (p .len) s (length s) (omega arith) (omega arith), take-length s) (places-append (take (p .len) (p .of)) s)
 
 getD-paste-cases : (d : List ℕ) (at : ℕ) (s : List ℕ) (B : ℕ) → ((i : ℕ) → i < length d → getD d i 0 ≤ B) → ((i : ℕ) → i < length s → getD s i 0 ≤ B)
     → (i : ℕ) → getD (paste d at s (length s)) i 0 ≤ B
@@ -93,10 +95,10 @@ pasted-sized p s z h b =
 
 -- ---- all of v
 
-rep-places : (n : ℕ) → placesIn (replicate n 256) ≡ replicate n Unknown
+unknown-places : (n : ℕ) → placesIn (replicate n 256) ≡ replicate n Unknown
 unfolding placesIn placeOf
-rep-places zero = refl
-rep-places (suc n) = ap (λ (u : List Place). Unknown ∷ u) (rep-places n)
+unknown-places zero = refl
+unknown-places (suc n) = ap (λ (u : List Place). Unknown ∷ u) (unknown-places n)
 
 take-replicate : (n k x : ℕ) → n ≤ k → take n (replicate k x) ≡ replicate n x
 take-replicate zero k x h = refl
@@ -107,15 +109,6 @@ drop-replicate : (n k x : ℕ) → drop n (replicate k x) ≡ replicate (k - n) 
 drop-replicate zero k x = let z : k - 0 ≡ k = omega arith in rw z
 drop-replicate (suc n) zero x = let z : 0 - suc n ≡ 0 = omega arith in rw z
 drop-replicate (suc n) (suc k) x = let z : suc k - suc n ≡ k - n = omega arith in rw z (drop-replicate n k x)
-
-take-past : (s t : List ℕ) (n : ℕ) → length s ≤ n → take n (s ++ t) ≡ s ++ take (n - length s) t
-take-past [] t n h = let z : n - 0 ≡ n = omega arith in rw z
-take-past (x ∷ s) t zero h = absurd (omega arith)
-take-past (x ∷ s) t (suc n) h = let z : suc n - suc (length s) ≡ n - length s = omega arith in rw z (ap (λ (u : List ℕ). x ∷ u) (take-past s t n (omega arith)))
-
-take-same : (t : List ℕ) → take (length t) t ≡ t
-take-same [] = refl
-take-same (x ∷ t) = ap (λ (u : List ℕ). x ∷ u) (take-same t)
 
 -- 60 places that are unknown
 unfoldable pub blank : Places
@@ -134,19 +127,21 @@ pub blank-shown : shown blank ≡ []
 unfolding blank shown placesIn
 blank-shown = refl
 
+pub blank-len : blank .len ≡ 0
+unfolding blank
+blank-len = refl
+
 pub v-shown : (s : List ℕ) (n : ℕ) → Bytes s → length s ≤ n → n ≤ 60 → shown (record { of = pastedOf blank s .of; len = n }) ≡ placesOf n s
 unfolding shown pastedOf blank placesOf
 v-shown s n b h k =
-    ap placesIn (rw (take-same s, drop-replicate (0 + length s) 60 256) (take-past s (replicate (60 - (0 + length s)) 256) n h))
+    ap placesIn (rw (take-length s, drop-replicate (0 + length s) 60 256) (past s (replicate (60 - (0 + length s)) 256) n h))
     ∙ places-append s (take (n - length s) (replicate (60 - (0 + length s)) 256))
-    ∙ rw (bytes-known s b, take-replicate (n - length s) (60 - (0 + length s)) 256 (omega arith), rep-places)
+    ∙ rw (bytes-known s b, take-replicate (n - length s) (60 - (0 + length s)) 256 (omega arith), unknown-places)
+  where
+    past : (s t : List ℕ) (n : ℕ) → length s ≤ n → take n (s ++ t) ≡ s ++ take (n - length s) t
+    past s t n h = let z : length s + (n - length s) ≡ n = omega arith in rw z at (take-append-add s t (n - length s))
 
--- ---- a stretch of the text or of v, as a part
-
-stretch-cons : {A : Type 0} (t : List A) (d : A) (a b : ℕ) → a + b ≤ length t → stretch d t a b ≡ take b (drop a t)
-unfolding stretch
-stretch-cons t d a zero h = refl
-stretch-cons {A} t d a (suc b) h = rw (drop-cons t a d (omega arith)) (ap (λ (s : List A). getD t a d ∷ s) (stretch-cons t d (suc a) b (omega arith)))
+-- ---- a part of v, and of the text
 
 cut-take : (a b n : ℕ) (t : List Place) → a + b ≤ n → take b (drop a t) ≡ take b (drop a (take n t))
 cut-take zero b n t h = sym (take-take b n t (omega arith))
@@ -154,26 +149,12 @@ cut-take (suc a) b zero t h = absurd (omega arith)
 cut-take (suc a) b (suc n) [] h = refl
 cut-take (suc a) b (suc n) (x ∷ t) h = cut-take a b n t (omega arith)
 
--- a part of v
-pub cut-shown : (v : Places) (a b : ℕ) → Sized v → a + b ≤ v .len → placesIn (take b (drop a (v .of))) ≡ stretch (Known 0) (shown v) a b
+pub cut-shown : (v : Places) (a b : ℕ) → a + b ≤ v .len → placesIn (take b (drop a (v .of))) ≡ take b (drop a (shown v))
 unfolding shown
-cut-shown v a b z h =
-    let r = z .room in
-    let l = z .long in
-    let n : length (placesIn (take (v .len) (v .of))) ≡ v .len = places-length (take (v .len) (v .of)) ∙ length-take-le (v .len) (v .of) (omega arith) in
-    places-take b (drop a (v .of))
-    ∙ ap (take b) (places-drop a (v .of))
-    ∙ cut-take a b (v .len) (placesIn (v .of)) h
-    ∙ ap (λ (t : List Place). take b (drop a t)) (sym (places-take (v .len) (v .of)))
-    ∙ sym (stretch-cons (placesIn (take (v .len) (v .of))) (Known 0) a b (omega arith))
+cut-shown v a b h = rw (places-take b, places-drop a, places-take (v .len)) (cut-take a b (v .len) (placesIn (v .of)) h)
 
--- a part of the text
 pub text-known : (t : List ℕ) (a b : ℕ) → a + b ≤ length t → Bytes (take b (drop a t)) → placesIn (take b (drop a t)) ≡ map Known (stretch 0 t a b)
-text-known t a b h k = rw (stretch-cons t 0 a b h) (bytes-known (take b (drop a t)) k)
+text-known t a b h k = rw (stretch-part t a b h) (bytes-known (take b (drop a t)) k)
 
 pub part-length : (t : List ℕ) (a b : ℕ) → a + b ≤ length t → length (take b (drop a t)) ≡ b
 part-length t a b h = length-take-le b (drop a t) (rw length-drop (omega arith))
-
-pub blank-len : blank .len ≡ 0
-unfolding blank
-blank-len = refl

@@ -2,19 +2,22 @@
 pub mod meets;
 
 ghost use mathlib.Core.Path.{_≡_};
-ghost use mathlib.Core.Bool.{true, not};
-ghost use mathlib.Core.List.{List, _++_};
-ghost use Prim.Native.Nat.{ℕ, _+_, _≤_, _<_};
+ghost use mathlib.Core.Bool.{not};
+ghost use Prim.Native.Nat.{_+_, _≤_};
 ghost use lib.ListN.{length, take, drop};
 ghost use Rattle.paper.specs.Tests.{allOf};
-ghost use Rattle.paper.specs.Trailer.{offsetOf, countOf, recordAt, longest};
-ghost use Rattle.paper.specs.Records.{termLen};
-ghost use Rattle.paper.specs.Refusals.{refusal};
-ghost use Rattle.paper.specs.Terms.{Known, partOf, placesOf, piece, cutInside};
-ghost use Rattle.paper.specs.Terms as paper;
+ghost use Rattle.paper.specs.Trailer.{countOf};
+ghost use Rattle.paper.specs.Terms.{placesOf, cutInside};
 ghost use Rattle.paper.specs.Sheet.{sheetOf, textOf, partsOf};
-ghost use Rattle.sheet.specs.Facts.{PartFacts};
-ghost use Rattle.terms.specs.Shown.{shown, Sized, Bytes, pastedOf, partBytes, Fitting, runOf, Readable};
+ghost use Rattle.paper.specs.Open.{termOn};
+ghost use Rattle.paper.proofs.Sound.{SoundPart};
+ghost use Rattle.sheet_trailer.specs.Tables.{TableOf};
+ghost use Rattle.sheet_contents.specs.Read.{asPart, asRun, SmallPart};
+ghost use Rattle.sheet.specs.Good.{Good};
+ghost use Rattle.terms.specs.Shown.{shown, Sized, Bytes, pastedOf, Fitting, Added, Readable};
+use sheet_contents::Part;
+use sheet_contents::Run;
+use sheet_trailer::Table;
 
 // Up to 60 places, each a byte that is known or 256.
 pub struct Places {
@@ -77,7 +80,7 @@ fn add_cut(p: Places, v: &[u16], a: usize, b: usize) -> Places
 
 // A constant's stretch of the text, behind the places that are there.
 fn add_text(p: Places, s: &[u8], a: usize, b: usize) -> Places
-    requires { ⌜ (refusal (now s) ≡ 0) × (p .len + b ≤ 60) × (a + b ≤ countOf (now s) 1) ⌝ }
+    requires { ⌜ Good (now s) × (p .len + b ≤ 60) × (a + b ≤ countOf (now s) 1) ⌝ }
     ensures { λ r. ⌜ (r ≡ pastedOf p (take b (drop a (textOf (now (s .entry)))))) × Bytes (take b (drop a (textOf (now (s .entry))))) ⌝ }
 {
     let t = sheet::text_of(s);
@@ -86,26 +89,37 @@ fn add_text(p: Places, s: &[u8], a: usize, b: usize) -> Places
 }
 
 // One part, behind the places that are there.
-fn add_part(p: Places, s: &[u8], f: sheet::Fields, v: Places) -> Places
-    requires { ⌜ (refusal (now s) ≡ 0) × PartFacts (countOf (now s) 1) (f .kind) (f .a) (f .b) × Sized p × Sized v × Fitting p v (partOf (f .kind) (f .a) (f .b)) ⌝ }
-    ensures { λ r. ⌜ (shown r ≡ shown p ++ piece Known (textOf (now (s .entry))) (shown v) (partOf (f .kind) (f .a) (f .b))) × Sized r × (r .len ≡ p .len + partBytes (v .len) (partOf (f .kind) (f .a) (f .b))) ⌝ }
+fn add_part(p: Places, s: &[u8], part: Part, v: Places) -> Places
+    requires { ⌜ Good (now s) × SoundPart (countOf (now s) 1) (asPart part) × Sized p × Sized v × Fitting p v (asPart part) ⌝ }
+    ensures { λ r. ⌜ Added (textOf (now (s .entry))) p v (asPart part) r ⌝ }
 {
-    let kind = f.kind;
-    match kind {
-        1 => add_text(p, s, f.a, f.b),
-        2 => add_cut(p, &v.of, 0, v.len),
-        _ => add_cut(p, &v.of, f.a, f.b),
+    match part {
+        Part::Const(a, b) => add_text(p, s, a, b),
+        Part::All => add_cut(p, &v.of, 0, v.len),
+        Part::Cut(a, b) => add_cut(p, &v.of, a, b),
+    }
+}
+
+// A cut that reaches past length n.
+fn past(part: Part, n: usize) -> bool
+    requires { ⌜ SmallPart (asPart part) ⌝ }
+    ensures { λ r. ⌜ cutInside n (asPart part) ≡ not r ⌝ }
+{
+    match part {
+        Part::Const(_, _) => false,
+        Part::All => false,
+        Part::Cut(a, b) => a + b > n,
     }
 }
 
 // No cut of a run of parts reaches past length n.
-pub fn inside(s: &[u8], at: usize, n: usize, first: usize, count: usize) -> bool
-    requires { ⌜ (refusal (now s) ≡ 0) × (at ≡ offsetOf (now s) 3) × (first + count ≤ countOf (now s) 3) ⌝ }
-    ensures { λ r. ⌜ r ≡ allOf (cutInside n) (partsOf (sheetOf (now (s .entry))) (runOf first count)) ⌝ }
+pub fn inside(s: &[u8], parts: Table, n: usize, r: Run) -> bool
+    requires { ⌜ Good (now s) × TableOf (now s) 3 parts × (r .first + r .count ≤ parts .count) ⌝ }
+    ensures { λ x. ⌜ x ≡ allOf (cutInside n) (partsOf (sheetOf (now (s .entry))) (asRun r)) ⌝ }
 {
     let mut i = 0;
-    while i < count {
-        if past(sheet::part_at(s, at, first + i), n) {
+    while i < r.count {
+        if past(sheet::part_at(s, parts, r.first + i), n) {
             return false;
         }
         i += 1;
@@ -113,29 +127,18 @@ pub fn inside(s: &[u8], at: usize, n: usize, first: usize, count: usize) -> bool
     true
 }
 
-// A cut that reaches past length n.
-fn past(f: sheet::Fields, n: usize) -> bool
-    requires { ⌜ (f .a < 65536) × (f .b < 65536) × (1 ≤ f .kind) × (f .kind ≤ 3) ⌝ }
-    ensures { λ r. ⌜ cutInside n (partOf (f .kind) (f .a) (f .b)) ≡ not r ⌝ }
-{
-    if f.kind != 3 {
-        return false;
-    }
-    f.a + f.b > n
-}
-
-// The places of the term of `count` parts from part `first` on.
-pub fn term(s: &[u8], at: usize, v: Places, first: usize, count: usize) -> Places
-    requires { ⌜ (refusal (now s) ≡ 0) × (at ≡ offsetOf (now s) 3) × Sized v × Readable (now s) (v .len) first count ⌝ }
-    ensures { λ r. ⌜ (shown r ≡ paper.term Known (textOf (now (s .entry))) (shown v) (partsOf (sheetOf (now (s .entry))) (runOf first count))) × Sized r ⌝ }
+// The places of the term of a run of parts.
+pub fn term(s: &[u8], parts: Table, v: Places, r: Run) -> Places
+    requires { ⌜ Good (now s) × TableOf (now s) 3 parts × Sized v × Readable (now s) (v .len) (asRun r) ⌝ }
+    ensures { λ t. ⌜ (shown t ≡ termOn (sheetOf (now (s .entry))) (shown v) (asRun r)) × Sized t ⌝ }
 {
     let mut p = Places {
         of: [256u16; 60],
         len: 0,
     };
     let mut i = 0;
-    while i < count {
-        p = add_part(p, s, sheet::part_at(s, at, first + i), v);
+    while i < r.count {
+        p = add_part(p, s, sheet::part_at(s, parts, r.first + i), v);
         i += 1;
     }
     p

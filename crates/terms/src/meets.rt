@@ -2,10 +2,10 @@
 ghost use mathlib.Core.Path.{_≡_};
 ghost use Prim.Native.Nat.{ℕ, _≤_};
 ghost use Rattle.paper.specs.Tests.{anyOf};
-ghost use Rattle.paper.specs.Refusals.{refusal};
 ghost use Rattle.paper.specs.Sheet.{sheetOf, Equals};
 ghost use Rattle.paper.specs.Opens.{isUnknown, canHold};
 ghost use Rattle.paper.specs.Opens as paper;
+ghost use Rattle.sheet.specs.Good.{Good};
 ghost use Rattle.workspace.specs.Places.{placeOf};
 ghost use Rattle.terms.specs.Shown.{shown, Sized};
 
@@ -27,7 +27,7 @@ pub fn some_unknown(p: crate::Places) -> bool
 
 // Two places can hold the same byte.
 fn meet(s: &[u8], x: u16, y: u16) -> bool
-    requires { ⌜ (refusal (now s) ≡ 0) × (x ≤ 256) × (y ≤ 256) ⌝ }
+    requires { ⌜ Good (now s) × (x ≤ 256) × (y ≤ 256) ⌝ }
     ensures { λ r. ⌜ r ≡ paper.meet (sheetOf (now (s .entry))) (placeOf x) (placeOf y) ⌝ }
 {
     if x < 256 {
@@ -44,7 +44,7 @@ fn meet(s: &[u8], x: u16, y: u16) -> bool
 
 // Two terms can be the same word.
 pub fn equal(s: &[u8], p: crate::Places, q: crate::Places) -> bool
-    requires { ⌜ (refusal (now s) ≡ 0) × Sized p × Sized q ⌝ }
+    requires { ⌜ Good (now s) × Sized p × Sized q ⌝ }
     ensures { λ r. ⌜ ((a b : ℕ) → r ≡ canHold (sheetOf (now (s .entry))) (Equals a b) (shown p) (shown q)) ⌝ }
 {
     let n = p.len;

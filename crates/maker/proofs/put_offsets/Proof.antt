@@ -1,18 +1,18 @@
--- `maker::put_offsets` meets its contract. The loop's invariant: the offsets below m are written.
 use borrow.Author.Needs.{needs}
 use Prim.Native.Nat.{ℕ, _+_, _≤_, _-_}
 use mathlib.Core.Path.{_≡_, ap}
 use native.Mathlib.Omega.{arith}
 use lib.ListN.{length}
 use Rattle.paper.specs.Tests.{gather}
-use Rattle.maker_groups.specs.Parts.{Put}
-use Rattle.maker_groups.proofs.Stores.{put-same}
+use Rattle.numbers.specs.Put.{Put}
+use Rattle.numbers.proofs.Stores.{put-same}
 use Rattle.maker_groups.proofs.Writing.{gather-none, gather-turn}
 use Rattle.maker.specs.Trailer.{offsetBytes}
 use Rattle.maker.proofs.Answers.{offsets-size}
 use Rattle.maker.proofs.put_offsets.Statement.{statement}
 use Rattle.maker.proofs.put_offsets.Tie as tie
 
+-- the offsets below m are written
 abbrev Inv-loop : tie.InvT-loop
 Inv-loop list₀ o offsets n p₀ m₀ list p m = (m ≤ n + 1) × Put (gather 0 m (offsetBytes offsets)) o list₀ list p × (length list ≡ length list₀)
 
@@ -24,31 +24,16 @@ loop-holds c =
     let a = c .before .before .args in
     (omega arith, gather-none (offsetBytes (a .offsets .now)) (a .o) (a .list .now), search needs)
 
-mul-put-u32 : tie.Need-mul-put-u32 Inv-loop μ-loop
-mul-put-u32 c = search needs
-
-shared-slice-read-put-u32 : tie.Need-shared-slice-read-put-u32 Inv-loop μ-loop
-shared-slice-read-put-u32 c = omega arith
-
 put-u32-requires : tie.Need-put-u32-requires Inv-loop μ-loop
 put-u32-requires c κs =
     let l = c .before .before .before .loop in
     omega (arith, offsets-size (c .before .before .before .before .before .before .args .offsets .now) (l .m), l .inv .1 .stop)
 
-add-m : tie.Need-add-m Inv-loop μ-loop
-add-m c = omega arith
-
-loop-less : tie.Need-loop-less Inv-loop μ-loop
-loop-less c = omega arith
-
 loop-again : tie.Need-loop-again Inv-loop μ-loop
 unfolding offsetBytes
 loop-again c =
     let l = c .before .before .before .before .before .before .loop in
-    (omega arith, gather-turn (offsetBytes (c .before .before .before .before .before .before .before .before .before .args .offsets .now)) (l .m) (l .inv .1) (c .before .before .put-u32 .ensures), search needs)
-
-same-length : tie.Need-same-length Inv-loop μ-loop
-same-length c = search needs
+    (omega arith, gather-turn (offsetBytes (c .before .before .before .before .before .before .before .before .before .args .offsets .now)) (l .m) (l .inv .1) (c .before .before .put-u32 .ensures .0), search needs)
 
 returns : tie.Need-returns Inv-loop μ-loop
 returns c =
@@ -63,11 +48,11 @@ put-offsets-spec =
     Inv-loop
     μ-loop
     loop-holds
-    mul-put-u32
-    shared-slice-read-put-u32
+    (λ c. search needs)
+    (λ c. omega arith)
     put-u32-requires
-    add-m
-    loop-less
+    (λ c. omega arith)
+    (λ c. omega arith)
     loop-again
-    same-length
+    (λ c. search needs)
     returns)

@@ -6,15 +6,9 @@ use native.Mathlib.Omega.{arith}
 use Rattle.paper.specs.Sheet.{grammarOf}
 use Rattle.paper.specs.Cuts.{options, allBytes, headBytes, entry}
 use Rattle.paper.proofs.Encoding.{length-head, length-entry}
-use Rattle.maker_groups.proofs.Stores.{put-more, put-same}
+use Rattle.numbers.proofs.Stores.{put-more, put-same}
 use Rattle.maker_groups.proofs.put_entry.Statement.{statement}
 use Rattle.maker_groups.proofs.put_entry.Tie as tie
-
-option-count-requires : tie.Need-option-count-requires
-option-count-requires c κs = search needs
-
-cast-put-head : tie.Need-cast-put-head
-cast-put-head c = search needs
 
 put-head-requires : tie.Need-put-head-requires
 put-head-requires c κs =
@@ -29,9 +23,6 @@ put-options-requires c κs =
     let head = length-head (a .t .r) (a .t .m) (c .before .before .before .before .before .before .option-count .result) in
     (p .0, p .1, p .2, omega (arith, long, head, c .before .before .before .put-head .ensures .stop))
 
-same-length : tie.Need-same-length
-same-length c = search needs
-
 returns : tie.Need-returns
 unfolding entry
 returns c =
@@ -43,9 +34,9 @@ pub put-entry-spec : {M : Type 1} → statement M
 put-entry-spec =
     tie.close
     (tie.spec
-    option-count-requires
-    cast-put-head
+    (λ c κs. search needs)
+    (λ c. search needs)
     put-head-requires
     put-options-requires
-    same-length
+    (λ c. search needs)
     returns)

@@ -1,4 +1,3 @@
--- `maker_groups::put_groups` meets its contract. The loop's invariant: the groups of the lengths below m are written.
 use borrow.Author.Needs.{needs}
 use Prim.Native.Nat.{ℕ, _+_, _≤_, _-_}
 use mathlib.Core.Path.{_≡_, ap}
@@ -7,12 +6,13 @@ use lib.ListN.{length}
 use Rattle.paper.specs.Sheet.{grammarOf}
 use Rattle.paper.specs.Cuts.{group, groups}
 use Rattle.maker_options.proofs.Turns.{groups-inside}
-use Rattle.maker_groups.specs.Parts.{Put}
-use Rattle.maker_groups.proofs.Stores.{put-same}
+use Rattle.numbers.specs.Put.{Put}
+use Rattle.numbers.proofs.Stores.{put-same}
 use Rattle.maker_groups.proofs.Writing.{gather-none, gather-turn}
 use Rattle.maker_groups.proofs.put_groups.Statement.{statement}
 use Rattle.maker_groups.proofs.put_groups.Tie as tie
 
+-- the groups of the lengths below m are written
 abbrev Inv-loop : tie.InvT-loop
 Inv-loop s ws list₀ j p₀ m₀ list p m = (m ≤ j .n + 1) × Put (groups (grammarOf s) m) 0 list₀ list p × (length list ≡ length list₀)
 
@@ -35,17 +35,11 @@ put-group-requires c κs =
 add-m : tie.Need-add-m Inv-loop μ-loop
 add-m c = omega (arith, c .before .before .before .before .before .before .before .before .before .before .pre .0 .job .short)
 
-loop-less : tie.Need-loop-less Inv-loop μ-loop
-loop-less c = omega arith
-
 loop-again : tie.Need-loop-again Inv-loop μ-loop
 unfolding groups
 loop-again c =
     let l = c .before .before .before .before .before .before .loop in
     (omega arith, gather-turn (group (grammarOf (c .before .before .before .before .before .before .before .before .before .before .args .s .now))) (l .m) (l .inv .1) (c .before .before .put-group .ensures), search needs)
-
-same-length : tie.Need-same-length Inv-loop μ-loop
-same-length c = search needs
 
 returns : tie.Need-returns Inv-loop μ-loop
 returns c =
@@ -63,7 +57,7 @@ put-groups-spec =
     loop-holds
     put-group-requires
     add-m
-    loop-less
+    (λ c. omega arith)
     loop-again
-    same-length
+    (λ c. search needs)
     returns)

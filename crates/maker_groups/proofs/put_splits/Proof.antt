@@ -1,16 +1,16 @@
--- `maker_groups::put_splits` meets its contract. The loop's invariant: the splits below k are written.
 use borrow.Author.Needs.{needs}
 use Prim.Native.Nat.{ℕ, _≤_, _-_}
 use mathlib.Core.Path.{_≡_, ap}
 use native.Mathlib.Omega.{arith}
 use lib.ListN.{length}
 use Rattle.paper.specs.Cuts.{splits, allBytes}
-use Rattle.maker_groups.specs.Parts.{Put}
-use Rattle.maker_groups.proofs.Stores.{put-same}
+use Rattle.numbers.specs.Put.{Put}
+use Rattle.numbers.proofs.Stores.{put-same}
 use Rattle.maker_groups.proofs.Writing.{splits-start, splits-turn, splits-size}
 use Rattle.maker_groups.proofs.put_splits.Statement.{statement}
 use Rattle.maker_groups.proofs.put_splits.Tie as tie
 
+-- the splits below k are written
 abbrev Inv-loop : tie.InvT-loop
 Inv-loop list₀ o m a b p₀ k₀ list p k = (1 ≤ k) × (k ≤ m) × Put (allBytes (splits k a b)) o list₀ list p × (length list ≡ length list₀)
 
@@ -22,29 +22,17 @@ loop-holds c =
     let a = c .before .args in
     (omega arith, omega arith, splits-start (a .a) (a .b) (a .o) (a .list .now), search needs)
 
-cast-t11 : tie.Need-cast-t11 Inv-loop μ-loop
-cast-t11 c = omega arith
-
 put-option-requires : tie.Need-put-option-requires Inv-loop μ-loop
 put-option-requires c κs =
     let a = c .before .before .before .before .args in
     let l = c .before .before .loop in
     omega (arith, splits-size (l .k) (a .a) (a .b), l .inv .2 .stop)
 
-add-k : tie.Need-add-k Inv-loop μ-loop
-add-k c = omega arith
-
-loop-less : tie.Need-loop-less Inv-loop μ-loop
-loop-less c = omega arith
-
 loop-again : tie.Need-loop-again Inv-loop μ-loop
 loop-again c =
     let a = c .before .before .before .before .before .before .before .args in
     let l = c .before .before .before .before .before .loop in
     (omega arith, omega arith, splits-turn (l .k) (a .a) (a .b) (l .inv .0) (l .inv .2) (c .before .before .put-option .ensures), search needs)
-
-same-length : tie.Need-same-length Inv-loop μ-loop
-same-length c = search needs
 
 returns : tie.Need-returns Inv-loop μ-loop
 returns c =
@@ -58,10 +46,10 @@ put-splits-spec =
     Inv-loop
     μ-loop
     loop-holds
-    cast-t11
+    (λ c. omega arith)
     put-option-requires
-    add-k
-    loop-less
+    (λ c. omega arith)
+    (λ c. omega arith)
     loop-again
-    same-length
+    (λ c. search needs)
     returns)

@@ -1,6 +1,4 @@
 use Prim.Native.Nat.{_<_}
-use mathlib.Core.Path.{_≡_}
-use native.Mathlib.Omega.{arith}
 use Rattle.paper.specs.Decide.{nullRow}
 use borrow.Author.Needs.{needs}
 use Rattle.rows.proofs.null_row.Statement.{statement}

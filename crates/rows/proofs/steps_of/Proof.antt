@@ -1,6 +1,4 @@
 use Prim.Native.Nat.{_<_}
-use mathlib.Core.Path.{_≡_, _∙_}
-use native.Mathlib.Omega.{arith}
 use Rattle.rows.specs.Sets.{stepsOf}
 use borrow.Author.Needs.{needs}
 use Rattle.rows.proofs.steps_of.Statement.{statement}

@@ -5,7 +5,6 @@ use borrow.Author.Needs.{needs}
 use lib.ListN.{length}
 use Rattle.paper.specs.Sheet.{sheetOf}
 use Rattle.paper.specs.Opens.{opens}
-use Rattle.sheet.proofs.Good.{good}
 use Rattle.workspace.specs.Within.{Within}
 use Rattle.chart.proofs.Filling.{within-none, within-then}
 use Rattle.walk_state.specs.Letters.{hasLetter}
@@ -32,7 +31,7 @@ start-requires : tie.Need-start-requires Inv-loop μ-loop
 start-requires c κs = tt
 
 loop-holds : tie.Need-loop-holds Inv-loop μ-loop
-loop-holds c = (seek-start _ _ _ _ _ _ (c .start .result) _ (c .start .ensures) (c .before .before .before .before .pre .1) (omega (arith, good _ (c .before .before .before .before .pre .0) .short, c .before .before .before .before .pre .2)) (search needs), search needs, within-none _)
+loop-holds c = (seek-start _ _ _ _ _ _ (c .start .result) _ (c .start .ensures) (c .before .before .before .before .pre .1) (omega (arith, c .before .before .before .before .pre .0 .good .short, c .before .before .before .before .pre .2)) (search needs), search needs, within-none _)
 
 slice-aggregate-judged : tie.Need-slice-aggregate-judged Inv-loop μ-loop
 slice-aggregate-judged c = sym (c .before .before .before .before .before .loop .inv .0 .frame .letters)

@@ -1,50 +1,22 @@
 use Prim.Native.Nat.{ℕ, _-_, _<_}
-use borrow.Author.Count.{below-more}
-use native.Mathlib.Omega.{arith}
-use borrow.Author.Needs.{needs}
 use lib.ListN.{length, getD}
-use Rattle.terms.proofs.Pasting.{Pasting, paste-start, paste-more, paste-long, paste-end}
+use borrow.Author.Needs.{needs}
+use borrow.Author.Count.{below-more}
 use Rattle.terms.specs.Shown.{pastedOf}
+use Rattle.terms.proofs.Pasting.{Pasting, paste-start, paste-more, paste-end}
+use native.Mathlib.Omega.{arith}
 use Rattle.terms.proofs.add_bytes.Statement.{statement}
 use Rattle.terms.proofs.add_bytes.Tie as tie
-use Rattle.terms.proofs.add_bytes.Reads as reads
-use Rattle.terms.proofs.add_bytes.Lts as lts
 
+-- the first i bytes have been copied, and each of them is below 256
 abbrev Inv-loop : tie.InvT-loop
 Inv-loop bytes at of₀ i₀ of i = Pasting bytes at of₀ of i × ((j : ℕ) → j < i → getD bytes j 0 < 256)
 
 abbrev μ-loop : tie.MeasureT-loop
 μ-loop bytes at of₀ i₀ of i = length bytes - i
 
-loop-holds : tie.Need-loop-holds Inv-loop μ-loop
-loop-holds c = (paste-start _ _ _ (c .before .pre) (search needs), λ j l. absurd (omega arith))
-
-shared-slice-read-of : tie.Need-shared-slice-read-of Inv-loop μ-loop
-shared-slice-read-of c = omega arith
-
-cast-of : tie.Need-cast-of Inv-loop μ-loop
-cast-of c = omega (arith, c .shared-slice-known .given (c .before .before .loop .i))
-
-add-of : tie.Need-add-of Inv-loop μ-loop
-add-of c = omega arith
-
-mul-of : tie.Need-mul-of Inv-loop μ-loop
-mul-of c = omega arith
-
-array-write-of : tie.Need-array-write-of Inv-loop μ-loop
-array-write-of c = omega arith
-
-add-i : tie.Need-add-i Inv-loop μ-loop
-add-i c = omega arith
-
-loop-less : tie.Need-loop-less Inv-loop μ-loop
-loop-less c = omega arith
-
 loop-again : tie.Need-loop-again Inv-loop μ-loop
 loop-again c = (paste-more _ _ _ _ _ (c .before .before .loop .inv .0) (c .before .loop-test .taken), below-more _ _ (c .before .before .loop .inv .1) (omega (arith, c .shared-slice-known .given (c .before .before .loop .i))))
-
-add-t15 : tie.Need-add-t15 Inv-loop μ-loop
-add-t15 c = omega arith
 
 returns : tie.Need-returns Inv-loop μ-loop
 unfolding pastedOf
@@ -58,14 +30,14 @@ add-bytes-spec =
     (tie.spec
     Inv-loop
     μ-loop
-    loop-holds
-    shared-slice-read-of
-    cast-of
-    add-of
-    mul-of
-    array-write-of
-    add-i
-    loop-less
+    (λ c. (paste-start _ _ _ (c .before .pre) (search needs), λ j l. absurd (omega arith)))
+    (λ c. omega arith)
+    (λ c. omega (arith, c .shared-slice-known .given (c .before .before .loop .i)))
+    (λ c. omega arith)
+    (λ c. omega arith)
+    (λ c. omega arith)
+    (λ c. omega arith)
+    (λ c. omega arith)
     loop-again
-    add-t15
+    (λ c. omega arith)
     returns)

@@ -1,18 +1,26 @@
-use Rattle.terms.proofs.Joining.{not-cut, a-cut}
+use native.Mathlib.Omega.{arith}
+use Rattle.paper.specs.Terms.{cutInside}
+use Rattle.terms.proofs.Joining.{past-is}
 use borrow.Author.Needs.{needs}
 use Rattle.terms.proofs.past.Statement.{statement}
 use Rattle.terms.proofs.past.Tie as tie
-use Rattle.terms.proofs.past.Reads as reads
-use Rattle.terms.proofs.past.Lts as lts
 
 returns : tie.Need-returns
-returns c = not-cut _ _ _ _ (c .before .before .pre .2) (c .before .before .pre .3) (c .if1 .taken)
-
-add-result : tie.Need-add-result
-add-result c = search needs
+unfolding cutInside
+returns c = rw (c .enum-told .given .1)
 
 returns-2 : tie.Need-returns-2
-returns-2 c = a-cut _ _ _ _ (c .before .if1 .left)
+unfolding cutInside
+returns-2 c = rw (c .enum-told2 .given .1)
 
 pub past-spec : {M : Type 1} → statement M
-past-spec = tie.close (tie.spec returns add-result returns-2)
+past-spec =
+    tie.close
+    (tie.spec
+    (λ c. search needs)
+    (λ c. search needs)
+    (λ c. search needs)
+    (λ c. omega (arith, rw (c .before .part .given .1) at (c .before .before .before .pre)))
+    returns
+    returns-2
+    (λ c. rw (c .before .part .given .1) (past-is _ _ _)))

@@ -1,56 +1,37 @@
 use Prim.Native.Nat.{_-_}
-use native.Mathlib.Omega.{arith}
 use Rattle.paper.specs.Terms.{All}
-use Rattle.sheet.proofs.Good.{good}
+use Rattle.sheet_contents.specs.Read.{asRun}
 use Rattle.terms.proofs.Showing.{blank}
 use Rattle.terms.proofs.Joining.{Joined, join-start, next-room, next-inside, join-more, join-end}
+use native.Mathlib.Omega.{arith}
 use Rattle.terms.proofs.term.Statement.{statement}
 use Rattle.terms.proofs.term.Tie as tie
-use Rattle.terms.proofs.term.Reads as reads
-use Rattle.terms.proofs.term.Lts as lts
-use Rattle.sheet.proofs.part_at.Reads as part-at-reads
-use Rattle.terms.proofs.add_part.Reads as add-part-reads
 
+-- p has the places of the first i parts
 abbrev Inv-loop : tie.InvT-loop
-Inv-loop s at v first count p₀ i₀ p i = Joined s v first count i p
+Inv-loop s parts v r p₀ i₀ p i = Joined s v (asRun r) i p
 
 abbrev μ-loop : tie.MeasureT-loop
-μ-loop s at v first count p₀ i₀ p i = count - i
+μ-loop s parts v r p₀ i₀ p i = r .count - i
 
 loop-holds : tie.Need-loop-holds Inv-loop μ-loop
 unfolding blank
-loop-holds c = join-start _ _ _ _
-
-add-part-at : tie.Need-add-part-at Inv-loop μ-loop
-add-part-at c = omega (arith, good _ (c .before .before .before .pre .0) .counts 3 (omega arith) .1, c .before .before .before .pre .3 .run)
-
-part-at-requires : tie.Need-part-at-requires Inv-loop μ-loop
-part-at-requires c κs = (c .before .before .before .pre .0, c .before .before .before .pre .1, omega (arith, c .before .before .before .pre .3 .run))
+loop-holds c = join-start _ _ _
 
 add-part-requires : tie.Need-add-part-requires Inv-loop μ-loop
 add-part-requires c κs =
-    let e = c .part-at .ensures .same All in (
-      c .before .before .before .before .pre .0,
-      c .part-at .ensures .facts,
-      c .before .before .loop .inv .sized,
-      c .before .before .before .before .pre .2,
+    let s = c .before .before .before .before .before .before in
+    let e = c .part-at .ensures .same All in
+    let j = c .before .before .before .before .loop .inv in (
+      s .pre .0,
+      c .part-at .ensures .sound,
+      j .sized,
+      s .pre .2,
       record {
-        room = rw e (next-room _ _ _ _ (c .before .before .before .before .pre .3) _ _ (c .before .before .loop .inv) (c .before .loop-test .taken));
-        within = rw e (next-inside _ (c .before .before .before .before .args .v) _ _ (c .before .before .before .before .pre .3) _ (c .before .loop-test .taken));
+        room = rw e (next-room _ _ _ (s .pre .3) _ _ j (c .before .before .if1 .taken));
+        within = rw e (next-inside _ (s .args .v) _ (s .pre .3) _ (c .before .before .if1 .taken));
       },
     )
-
-add-i : tie.Need-add-i Inv-loop μ-loop
-add-i c = omega arith
-
-loop-less : tie.Need-loop-less Inv-loop μ-loop
-loop-less c = omega arith
-
-loop-again : tie.Need-loop-again Inv-loop μ-loop
-loop-again c = join-more _ _ _ _ (c .before .before .before .before .before .pre .3) _ _ _ _ (c .before .before .before .loop .inv) (c .before .before .loop-test .taken) (c .before .part-at .ensures .same All) (c .add-part .ensures .0) (c .add-part .ensures .1) (c .add-part .ensures .2)
-
-returns : tie.Need-returns Inv-loop μ-loop
-returns c = (join-end _ _ _ _ (c .before .before .before .pre .3) _ _ (c .before .loop .inv) (c .loop-test .left), c .before .loop .inv .sized)
 
 pub term-spec : {M : Type 1} → statement M
 term-spec =
@@ -59,10 +40,10 @@ term-spec =
     Inv-loop
     μ-loop
     loop-holds
-    add-part-at
-    part-at-requires
+    (λ c. omega (arith, c .before .before .before .before .before .pre .3 .run))
+    (λ c κs. (c .before .before .before .before .before .pre .0, c .before .before .before .before .before .pre .1, omega (arith, c .before .before .before .before .before .pre .1 .counts, c .before .before .before .before .before .pre .3 .run)))
     add-part-requires
-    add-i
-    loop-less
-    loop-again
-    returns)
+    (λ c. omega arith)
+    (λ c. omega arith)
+    (λ c. join-more _ _ _ (c .before .before .before .before .before .before .before .pre .3) _ _ _ _ (c .before .before .before .before .before .loop .inv) (c .before .before .before .if1 .taken) (c .before .part-at .ensures .same All) (c .add-part .ensures))
+    (λ c. (join-end _ _ _ (c .before .before .before .before .pre .3) _ _ (c .before .before .loop .inv) (c .if1 .left), c .before .before .loop .inv .sized)))

@@ -8,15 +8,9 @@ returns : tie.Need-returns
 unfolding canHold
 returns c = rw (lt-ltb _ _ (c .if1 .taken))
 
-add-test : tie.Need-add-test
-add-test c = search needs
-
-test-requires : tie.Need-test-requires
-test-requires c κs = search needs
-
 returns-2 : tie.Need-returns-2
 unfolding canHold
 returns-2 c = rw (le-ltb _ _ (c .before .if1 .left)) (c .test .ensures)
 
 pub can-hold-spec : {M : Type 1} → statement M
-can-hold-spec = tie.close (tie.spec returns add-test test-requires returns-2)
+can-hold-spec = tie.close (tie.spec returns (λ c. search needs) (λ c κs. search needs) returns-2)

@@ -1,58 +1,24 @@
--- `chart::singles::can_hold_all` meets its contract. The loop's invariant: the places passed can hold their bytes.
-use mathlib.Core.Path.{_≡_, refl, sym, ap, _∙_}
-use mathlib.Core.Bool.{Bool, true}
+use mathlib.Core.Path.{_≡_, sym, _∙_}
+use mathlib.Core.Bool.{true}
 use Prim.Native.Nat.{ℕ, _≤_, _<_, _+_, _-_}
 use native.Mathlib.Omega.{arith}
 use lib.ListN.{length, getD}
-use borrow.Author.Needs.{needs}
 use borrow.Author.Count.{below-more}
 use Rattle.paper.proofs.Tests.{all-intro}
 use Rattle.chart.specs.Cells.{canHold, canHoldAll}
 use Rattle.chart.proofs.Rows.{part-fails}
 use Rattle.chart.proofs.singles.can_hold_all.Statement.{statement}
 use Rattle.chart.proofs.singles.can_hold_all.Tie as tie
-use Rattle.chart.proofs.singles.can_hold_all.Reads as reads
-use Rattle.chart.proofs.singles.can_hold_all.Lts as lts
-use Rattle.chart.proofs.singles.can_hold.Reads as can-hold-reads
 
+-- the places passed can hold their bytes
 abbrev Inv-loop : tie.InvT-loop
 Inv-loop part off places i lay k₀ k = (k ≤ length part) × ((j : ℕ) → j < k → canHold lay (getD places (i + j) 0) (off + j) (getD part j 0) ≡ true)
 
 abbrev μ-loop : tie.MeasureT-loop
 μ-loop part off places i lay k₀ k = length part - k
 
-loop-holds : tie.Need-loop-holds Inv-loop μ-loop
-loop-holds c = (omega arith, λ j h. absurd (omega arith))
-
-shared-slice-read-b : tie.Need-shared-slice-read-b Inv-loop μ-loop
-shared-slice-read-b c = omega arith
-
-cast-b : tie.Need-cast-b Inv-loop μ-loop
-cast-b c = omega (arith, c .shared-slice-known4 .given (c .before .before .loop .k))
-
-add-x : tie.Need-add-x Inv-loop μ-loop
-add-x c = omega arith
-
-mul-x : tie.Need-mul-x Inv-loop μ-loop
-mul-x c = omega arith
-
-shared-slice-read-x : tie.Need-shared-slice-read-x Inv-loop μ-loop
-shared-slice-read-x c = omega arith
-
 cast-x : tie.Need-cast-x Inv-loop μ-loop
 cast-x c = omega (arith, c .shared-slice-known5 .given (c .before .before .before .before .before .before .before .args .i + c .before .before .before .loop .k))
-
-add-can-hold : tie.Need-add-can-hold Inv-loop μ-loop
-add-can-hold c = omega arith
-
-can-hold-requires : tie.Need-can-hold-requires Inv-loop μ-loop
-can-hold-requires c κs = (omega arith, omega arith)
-
-add-k : tie.Need-add-k Inv-loop μ-loop
-add-k c = omega arith
-
-loop-less : tie.Need-loop-less Inv-loop μ-loop
-loop-less c = omega arith
 
 loop-again : tie.Need-loop-again Inv-loop μ-loop
 loop-again c = (omega arith, below-more _ _ (c .before .before .before .before .before .loop .inv .1) (sym (c .before .can-hold .ensures) ∙ c .if1 .taken))
@@ -74,17 +40,17 @@ can-hold-all-spec =
     (tie.spec
     Inv-loop
     μ-loop
-    loop-holds
-    shared-slice-read-b
-    cast-b
-    add-x
-    mul-x
-    shared-slice-read-x
+    (λ c. (omega arith, λ j h. absurd (omega arith)))
+    (λ c. omega arith)
+    (λ c. omega (arith, c .shared-slice-known4 .given (c .before .before .loop .k)))
+    (λ c. omega arith)
+    (λ c. omega arith)
+    (λ c. omega arith)
     cast-x
-    add-can-hold
-    can-hold-requires
-    add-k
-    loop-less
+    (λ c. omega arith)
+    (λ c κs. (omega arith, omega arith))
+    (λ c. omega arith)
+    (λ c. omega arith)
     loop-again
     returns
     returns-2)

@@ -4,15 +4,9 @@ use Rattle.workspace.specs.Bits.{bit}
 use Rattle.chart.proofs.singles.has_length.Statement.{statement}
 use Rattle.chart.proofs.singles.has_length.Tie as tie
 
-shared-slice-read-result : tie.Need-shared-slice-read-result
-shared-slice-read-result c = search needs
-
-shr-result : tie.Need-shr-result
-shr-result c = search needs
-
 returns : tie.Need-returns
 unfolding bit
 returns c = rw (and-mask _ 1)
 
 pub has-length-spec : {M : Type 1} → statement M
-has-length-spec = tie.close (tie.spec shared-slice-read-result shr-result returns)
+has-length-spec = tie.close (tie.spec (λ c. search needs) (λ c. search needs) returns)

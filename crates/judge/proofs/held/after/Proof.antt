@@ -1,17 +1,19 @@
-use borrow.Author.Tests.{eq-eqb, ne-eqb}
 use Rattle.judge.specs.Charts.{heldOf, afterOf}
+use borrow.Author.Needs.{needs}
 use Rattle.judge.proofs.held.after.Statement.{statement}
 use Rattle.judge.proofs.held.after.Tie as tie
-use Rattle.judge.proofs.held.after.Reads as reads
-use Rattle.judge.proofs.held.after.Lts as lts
 
 returns : tie.Need-returns
 unfolding afterOf heldOf
-returns c = rw (eq-eqb _ 1 (c .if1 .taken))
+returns c = rw (c .enum-told .given .1)
 
 returns-2 : tie.Need-returns-2
 unfolding afterOf
-returns-2 c = rw (ne-eqb _ 1 (c .if1 .left))
+returns-2 c = rw (c .enum-told2 .given .1)
+
+returns-3 : tie.Need-returns-3
+unfolding afterOf
+returns-3 c = rw (c .enum-told3 .given .1)
 
 pub after-spec : {M : Type 1} → statement M
-after-spec = tie.close (tie.spec returns returns-2)
+after-spec = tie.close (tie.spec (λ c. search needs) (λ c. search needs) (λ c. search needs) returns returns-2 returns-3)

@@ -2,16 +2,14 @@ use borrow.Author.Tests.{eq-eqb, ne-eqb}
 use Rattle.judge.specs.Charts.{isOf}
 use Rattle.judge.proofs.held.is_of.Statement.{statement}
 use Rattle.judge.proofs.held.is_of.Tie as tie
-use Rattle.judge.proofs.held.is_of.Reads as reads
-use Rattle.judge.proofs.held.is_of.Lts as lts
 
 returns : tie.Need-returns
 unfolding isOf
-returns c = rw (c .before .before .before .if1 .taken, eq-eqb _ _ (c .before .if2 .taken))
+returns c = rw (c .before .before .before .before .before .if1 .taken, eq-eqb _ _ (c .before .before .if2 .taken))
 
 returns-2 : tie.Need-returns-2
 unfolding isOf
-returns-2 c = rw (c .before .before .if1 .taken, ne-eqb _ _ (c .if2 .left))
+returns-2 c = rw (c .before .before .before .if1 .taken, ne-eqb _ _ (c .if2 .left))
 
 returns-3 : tie.Need-returns-3
 unfolding isOf

@@ -1,4 +1,3 @@
--- `maker_options::ready::give_all` meets its contract. The loop's invariant: the lengths below m have their entries.
 use borrow.Author.Needs.{needs}
 use Prim.Native.Nat.{ℕ, _+_, _≤_, _-_}
 use mathlib.Core.Path.{_≡_, subst}
@@ -11,6 +10,7 @@ use Rattle.maker_options.proofs.Entries.{given-none, given-more}
 use Rattle.maker_options.proofs.ready.give_all.Statement.{statement}
 use Rattle.maker_options.proofs.ready.give_all.Tie as tie
 
+-- the lengths below m have their entries
 abbrev Inv-loop : tie.InvT-loop
 Inv-loop s j ws₀ m₀ ws m = (1 ≤ m) × (m ≤ j .n + 1) × Given (grammarOf s) m ws₀ ws × (length ws ≡ length ws₀)
 
@@ -31,17 +31,11 @@ give-requires c κs =
 add-m : tie.Need-add-m Inv-loop μ-loop
 add-m c = omega (arith, c .before .before .before .before .before .before .before .before .before .pre .0 .short)
 
-loop-less : tie.Need-loop-less Inv-loop μ-loop
-loop-less c = omega arith
-
 loop-again : tie.Need-loop-again Inv-loop μ-loop
 loop-again c =
     let a = c .before .before .before .before .before .before .before .before .before .args in
     let l = c .before .before .before .before .before .before .loop in
-    (omega arith, omega arith, given-more (grammarOf (a .s .now)) (l .m) (a .j .rows) (a .ws .now) (l .ws) _ (l .inv .0) (job-rows (a .s .now) (a .j) (c .before .before .before .before .before .before .before .before .before .pre .0)) (l .inv .2) (c .before .before .give .ensures), search needs)
-
-same-length : tie.Need-same-length Inv-loop μ-loop
-same-length c = search needs
+    (omega arith, omega arith, given-more (grammarOf (a .s .now)) (l .m) (a .j .rows .count) (a .ws .now) (l .ws) _ (l .inv .0) (job-rows (c .before .before .before .before .before .before .before .before .before .pre .0)) (l .inv .2) (c .before .before .give .ensures), search needs)
 
 returns : tie.Need-returns Inv-loop μ-loop
 returns c =
@@ -59,7 +53,7 @@ give-all-spec =
     loop-holds
     give-requires
     add-m
-    loop-less
+    (λ c. omega arith)
     loop-again
-    same-length
+    (λ c. search needs)
     returns)

@@ -1,4 +1,3 @@
--- `maker_options::ready::turn` meets its contract. The loop's invariant: the rows below r have their entries.
 use borrow.Author.Needs.{needs}
 use Prim.Native.Nat.{ℕ, _≤_, _-_}
 use mathlib.Core.Path.{_≡_, subst}
@@ -9,6 +8,7 @@ use Rattle.maker_options.proofs.Entries.{turned-none, turned-more}
 use Rattle.maker_options.proofs.ready.turn.Statement.{statement}
 use Rattle.maker_options.proofs.ready.turn.Tie as tie
 
+-- the rows below r have their entries
 abbrev Inv-loop : tie.InvT-loop
 Inv-loop from n ws₀ r₀ ws r = (r ≤ n) × Turned from n r ws × (length ws ≡ length ws₀)
 
@@ -23,20 +23,11 @@ loop-holds c =
 turn-row-requires : tie.Need-turn-row-requires Inv-loop μ-loop
 turn-row-requires c κs = (omega arith, omega arith, omega arith, omega (arith, c .before .before .loop .inv .1 .long))
 
-add-r : tie.Need-add-r Inv-loop μ-loop
-add-r c = omega arith
-
-loop-less : tie.Need-loop-less Inv-loop μ-loop
-loop-less c = omega arith
-
 loop-again : tie.Need-loop-again Inv-loop μ-loop
 loop-again c =
     let a = c .before .before .before .before .before .before .before .before .args in
     let l = c .before .before .before .before .before .loop in
     (omega arith, turned-more (a .from .now) (a .n) (l .r) (l .ws) _ (l .inv .1) (c .before .before .turn-row .ensures), search needs)
-
-same-length : tie.Need-same-length Inv-loop μ-loop
-same-length c = search needs
 
 returns : tie.Need-returns Inv-loop μ-loop
 returns c =
@@ -53,8 +44,8 @@ turn-spec =
     μ-loop
     loop-holds
     turn-row-requires
-    add-r
-    loop-less
+    (λ c. omega arith)
+    (λ c. omega arith)
     loop-again
-    same-length
+    (λ c. search needs)
     returns)

@@ -1,4 +1,3 @@
--- `maker_options::ready::turn_row` meets its contract. The loop's invariant: the rows below q are in or not.
 use borrow.Author.Needs.{needs}
 use Prim.Native.Nat.{_≤_, _-_}
 use mathlib.Core.Path.{_≡_}
@@ -9,33 +8,22 @@ use Rattle.maker_options.proofs.Entries.{entry-start, entry-turn, entry
 use Rattle.maker_options.proofs.ready.turn_row.Statement.{statement}
 use Rattle.maker_options.proofs.ready.turn_row.Tie as tie
 
+-- the rows below q are in or not
 abbrev Inv-loop : tie.InvT-loop
 Inv-loop from n ws₀ r q₀ ws q = (q ≤ n) × Entry r q (across from r) ws₀ ws × (length ws ≡ length ws₀)
 
 abbrev μ-loop : tie.MeasureT-loop
 μ-loop from n ws₀ r q₀ ws q = n - q
 
-wipe-requires : tie.Need-wipe-requires Inv-loop μ-loop
-wipe-requires c κs = omega arith
-
 loop-holds : tie.Need-loop-holds Inv-loop μ-loop
 loop-holds c =
     let a = c .before .before .before .before .before .before .args in
     (omega arith, entry-start (a .r) (across (a .from .now) (a .r)) (a .ws .now) _ (c .before .before .wipe .ensures) (omega arith), search needs)
 
-test-requires : tie.Need-test-requires Inv-loop μ-loop
-test-requires c κs = (omega arith, omega arith)
-
 put-requires : tie.Need-put-requires Inv-loop μ-loop
 put-requires c κs =
     let a = c .before .before .before .before .before .before .before .before .before .before .args in
     (omega (arith, c .before .before .before .loop .inv .2, entry-length (a .r) (across (a .from .now) (a .r)) (a .ws .now) _ (c .before .before .before .before .before .before .wipe .ensures)), omega arith)
-
-add-q : tie.Need-add-q Inv-loop μ-loop
-add-q c = omega arith
-
-loop-less : tie.Need-loop-less Inv-loop μ-loop
-loop-less c = omega arith
 
 loop-again : tie.Need-loop-again Inv-loop μ-loop
 loop-again c =
@@ -47,9 +35,6 @@ loop-again c =
       entry-turn (a .r) f _ (omega arith) (l .q) (l .ws) _ _ (omega arith) (c .before .before .before .before .test .ensures) (c .before .before .put .ensures) (l .inv .1),
       search needs,
     )
-
-same-length : tie.Need-same-length Inv-loop μ-loop
-same-length c = search needs
 
 returns : tie.Need-returns Inv-loop μ-loop
 returns c =
@@ -64,12 +49,12 @@ turn-row-spec =
     (tie.spec
     Inv-loop
     μ-loop
-    wipe-requires
+    (λ c κs. omega arith)
     loop-holds
-    test-requires
+    (λ c κs. (omega arith, omega arith))
     put-requires
-    add-q
-    loop-less
+    (λ c. omega arith)
+    (λ c. omega arith)
     loop-again
-    same-length
+    (λ c. search needs)
     returns)

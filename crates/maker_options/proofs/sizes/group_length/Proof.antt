@@ -1,4 +1,3 @@
--- `maker_options::sizes::group_length` meets its contract. The loop's invariant: the entries of the rows below r are counted.
 use Prim.Native.Nat.{ℕ, _+_, _*_, _≤_, _-_}
 use mathlib.Core.Path.{_≡_, ap, _∙_}
 use native.Mathlib.Omega.{arith}
@@ -6,15 +5,16 @@ use lib.ListN.{length}
 use Rattle.paper.specs.Tests.{gather}
 use Rattle.paper.specs.Sheet.{grammarOf}
 use Rattle.paper.specs.Cuts.{entry, group}
-use Rattle.maker_options.proofs.Turns.{entries-none, count-room, count-more, rows-of, rows-end}
+use Rattle.maker_options.proofs.Turns.{job-few, entries-none, count-room, count-more, job-rows, rows-end}
 use Rattle.maker_options.proofs.sizes.group_length.Statement.{statement}
 use Rattle.maker_options.proofs.sizes.group_length.Tie as tie
 
+-- the entries of the rows below r are counted
 abbrev Inv-loop : tie.InvT-loop
-Inv-loop s ws j m total₀ r₀ total r = (r ≤ j .rows) × (total ≡ length (gather 0 r (entry (grammarOf s) m)))
+Inv-loop s ws j m total₀ r₀ total r = (r ≤ j .rows .count) × (total ≡ length (gather 0 r (entry (grammarOf s) m)))
 
 abbrev μ-loop : tie.MeasureT-loop
-μ-loop s ws j m total₀ r₀ total r = j .rows - r
+μ-loop s ws j m total₀ r₀ total r = j .rows .count - r
 
 loop-holds : tie.Need-loop-holds Inv-loop μ-loop
 loop-holds c =
@@ -32,35 +32,23 @@ room c =
     let a = c .before .before .before .before .before .before .args in
     let p = c .before .before .before .before .before .before .pre in
     let l = c .before .before .before .loop in
-    count-room (a .s .now) (a .ws .now) (a .j) (p .0) (a .m) (l .r) (l .total) _ (c .before .if1 .taken) (p .1) (l .inv .1) (c .option-count .ensures)
-
-mul-total : tie.Need-mul-total Inv-loop μ-loop
-mul-total c = omega (arith, room c)
-
-add-total : tie.Need-add-total Inv-loop μ-loop
-add-total c = omega (arith, room c)
-
-add-total-2 : tie.Need-add-total-2 Inv-loop μ-loop
-add-total-2 c = omega (arith, room c)
+    count-room (p .0) (a .m) (l .r) (l .total) _ (c .before .if1 .taken) (p .1) (l .inv .1) (c .option-count .ensures)
 
 add-r : tie.Need-add-r Inv-loop μ-loop
-add-r c = omega (arith, c .before .before .before .before .before .before .pre .0 .job .few)
-
-loop-less : tie.Need-loop-less Inv-loop μ-loop
-loop-less c = omega arith
+add-r c = omega (arith, job-few (c .before .before .before .before .before .before .pre .0 .job))
 
 loop-again : tie.Need-loop-again Inv-loop μ-loop
 loop-again c =
     let a = c .before .before .before .before .before .before .args in
     let l = c .before .before .before .loop in
-    (omega arith, count-more (a .s .now) (a .ws .now) (a .j) (c .before .before .before .before .before .before .pre .0) (a .m) (l .r) (l .total) _ (l .inv .1) (c .option-count .ensures))
+    (omega arith, count-more (c .before .before .before .before .before .before .pre .0) (a .m) (l .r) (l .total) _ (l .inv .1) (c .option-count .ensures))
 
 returns : tie.Need-returns Inv-loop μ-loop
 unfolding group
 returns c =
     let a = c .before .before .before .before .before .args in
     let l = c .before .before .loop in
-    l .inv .1 ∙ ap (λ (z : ℕ). length (gather 0 z (entry (grammarOf (a .s .now)) (a .m)))) (rows-end (l .r) (a .j .rows) _ (l .inv .0) (λ z. omega arith) (rows-of (a .s .now) (a .ws .now) (a .j) (c .before .before .before .before .before .pre .0)))
+    l .inv .1 ∙ ap (λ (z : ℕ). length (gather 0 z (entry (grammarOf (a .s .now)) (a .m)))) (rows-end (l .r) (a .j .rows .count) _ (l .inv .0) (λ z. omega arith) (job-rows (c .before .before .before .before .before .pre .0 .job)))
 
 pub group-length-spec : {M : Type 1} → statement M
 group-length-spec =
@@ -70,10 +58,10 @@ group-length-spec =
     μ-loop
     loop-holds
     option-count-requires
-    mul-total
-    add-total
-    add-total-2
+    (λ c. omega (arith, room c))
+    (λ c. omega (arith, room c))
+    (λ c. omega (arith, room c))
     add-r
-    loop-less
+    (λ c. omega arith)
     loop-again
     returns)

@@ -1,4 +1,3 @@
--- `maker_options::sizes::measure` meets its contract. The loop's invariant: the groups below m are counted, and each one's start is noted.
 use borrow.Author.Needs.{needs}
 use Prim.Native.Nat.{ℕ, _+_, _≤_, _-_}
 use mathlib.Core.Path.{_≡_, ap, _∙_, subst}
@@ -11,6 +10,7 @@ use Rattle.maker_options.proofs.Turns.{groups-none, groups-more, groups
 use Rattle.maker_options.proofs.sizes.measure.Statement.{statement}
 use Rattle.maker_options.proofs.sizes.measure.Tie as tie
 
+-- the groups below m are counted, and each one's start is noted
 abbrev Inv-loop : tie.InvT-loop
 Inv-loop s ws j offsets₀ total₀ m₀ offsets total m = (m ≤ j .n + 1) × (total ≡ length (groups (grammarOf s) m)) × Offsets (grammarOf s) m offsets × (length offsets ≡ length offsets₀)
 
@@ -26,29 +26,20 @@ mul-offsets c = omega (arith, c .before .before .before .before .before .before 
 slice-write-offsets : tie.Need-slice-write-offsets Inv-loop μ-loop
 slice-write-offsets c = omega (arith, c .before .before .before .before .before .before .pre .0 .job .short)
 
-group-length-requires : tie.Need-group-length-requires Inv-loop μ-loop
-group-length-requires c κs = (c .before .before .before .before .before .before .pre .0, c .if1 .taken)
-
 add-total : tie.Need-add-total Inv-loop μ-loop
 add-total c =
     let a = c .before .before .before .before .before .before .before .args in
     let l = c .before .before .before .loop in
-    omega (arith, groups-inside (grammarOf (a .s .now)) (l .m) (a .j .n) (c .before .if1 .taken), l .inv .1, c .group-length .ensures, groups-bound (a .s .now) (a .ws .now) (a .j) (c .before .before .before .before .before .before .before .pre .0))
+    omega (arith, groups-inside (grammarOf (a .s .now)) (l .m) (a .j .n) (c .before .if1 .taken), l .inv .1, c .group-length .ensures, groups-bound (c .before .before .before .before .before .before .before .pre .0))
 
 add-m : tie.Need-add-m Inv-loop μ-loop
 add-m c = omega (arith, c .before .before .before .before .before .before .before .pre .0 .job .short)
-
-loop-less : tie.Need-loop-less Inv-loop μ-loop
-loop-less c = omega arith
 
 loop-again : tie.Need-loop-again Inv-loop μ-loop
 loop-again c =
     let g = grammarOf (c .before .before .before .before .before .before .before .args .s .now) in
     let l = c .before .before .before .loop in
     (omega arith, omega (arith, groups-more g (l .m), l .inv .1, c .group-length .ensures), offset-more g (l .m) (l .offsets) (l .total) (omega (arith, c .before .before .before .before .before .before .before .pre .0 .job .short)) (l .inv .1) (l .inv .2), simp length-set (l .inv .3))
-
-same-length : tie.Need-same-length Inv-loop μ-loop
-same-length c = search needs
 
 returns : tie.Need-returns Inv-loop μ-loop
 returns c =
@@ -67,10 +58,10 @@ measure-spec =
     loop-holds
     mul-offsets
     slice-write-offsets
-    group-length-requires
+    (λ c κs. (c .before .before .before .before .before .before .pre .0, c .if1 .taken))
     add-total
     add-m
-    loop-less
+    (λ c. omega arith)
     loop-again
-    same-length
+    (λ c. search needs)
     returns)

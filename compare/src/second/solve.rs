@@ -1,7 +1,7 @@
 //! The solver: the walk with its trials, and what the call says and leaves.
 
-use crate::open::open;
-use crate::sheet::Sheet;
+use super::open::open;
+use super::sheet::Sheet;
 
 /// Words of workspace that the solver and the gate ask for and leave zero.
 pub const WORK: usize = 7_564;

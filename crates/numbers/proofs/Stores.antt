@@ -9,7 +9,7 @@ use native.Mathlib.Nat.{add-zero, zero-add, add-suc, suc-add}
 use lib.ListN.{length, set, length-append}
 use lib.Seq.{sets, sets-eq}
 use Rattle.paper.specs.Answers.{written}
-use Rattle.maker_groups.specs.Parts.{Put}
+use Rattle.numbers.specs.Put.{Put}
 
 sets-append : (l : List ℕ) (o : ℕ) (x y : List ℕ) → sets (sets l o x) (o + length x) y ≡ sets l o (x ++ y)
 sets-append l o [] y = rw add-zero

@@ -1,7 +1,7 @@
 //! The judgement of one trial: is a prefix open at a length?
 
-use crate::derive::{can_read, derives, Place};
-use crate::sheet::{Assertion, Claim, Part, Run, Sheet};
+use super::derive::{can_read, derives, Place};
+use super::sheet::{Assertion, Claim, Part, Run, Sheet};
 
 /// Whether each assertion, taken alone, is possible for words of n bytes with this prefix.
 pub fn open(sheet: &Sheet, prefix: &[u8], n: usize) -> bool {

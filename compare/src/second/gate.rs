@@ -1,7 +1,7 @@
 //! The gate: is a word accepted by a cut list?
 
-use crate::sheet::{read_u16, read_u32, LENGTH_LIMIT};
-use crate::solve::WORK;
+use super::sheet::{read_u16, read_u32, LENGTH_LIMIT};
+use super::solve::WORK;
 
 pub const LIST_MARK: &[u8; 4] = b"CUT1";
 

@@ -1,7 +1,7 @@
 //! The maker of cut lists: refusals 10 to 17 and 20 to 22, and the exact bytes of the list.
 
-use crate::derive::derives_word;
-use crate::sheet::{Row, Sheet, LENGTH_LIMIT};
+use super::derive::derives_word;
+use super::sheet::{Row, Sheet, LENGTH_LIMIT};
 
 #[derive(Clone, Copy, PartialEq, Eq, Debug)]
 pub struct Made {

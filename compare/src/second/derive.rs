@@ -4,7 +4,7 @@
 //! from that start can end. The sets begin empty and only grow, so what is reached is the least
 //! solution: exactly what finite derivations show, also where rows refer to themselves.
 
-use crate::sheet::{Row, Sheet};
+use super::sheet::{Row, Sheet};
 
 /// One byte of a term.
 #[derive(Clone, Copy, PartialEq, Eq, Debug)]
