@@ -9,16 +9,18 @@ use lib.ListN.{length, take}
 use borrow.Author.Tests.{ne-eqb, lt-leb}
 use Rattle.paper.specs.Bytes.{OfBytes}
 use Rattle.paper.specs.Trailer.{longest}
-use Rattle.paper.specs.Refusals.{Accepted}
+use Rattle.paper.specs.Refusals.{Fault, noFault, Accepted}
+use Rattle.paper.specs.Names.{Names}
 use Rattle.paper.specs.Rows.{Derives}
 use Rattle.paper.specs.Sheet.{sheetOf, textOf, grammarOf}
 use Rattle.paper.specs.Cuts.{cutList}
 use Rattle.paper.specs.Gate.{wellFormed}
-use Rattle.paper.specs.Answers.{Said, Report, reportOf, MakerReport, words, zeroed, written, workAfter, outAfter, solverRefusal, makerRefusal, makerSays, spaceAfter, gateSays, gateLeaves}
+use Rattle.paper.specs.Answers.{Said, Found, None, Spent, Refused, Report, reportOf, whether, under, walkOf, solverSays, MakerReport, words, zeroed, written, workAfter, outAfter, solverRefusal, makerRefusal, makerSays, spaceAfter, gateSays, gateLeaves}
 use Rattle.paper.specs.Promises.{Solves, Makes, Gates}
 use Rattle.paper.proofs.Budget.{under-above}
+use Rattle.paper.proofs.Meaning.{Means, answer-means}
+use Rattle.paper.proofs.Faults.{named-by, solver-names, maker-names}
 use Rattle.paper.proofs.WellFormed.{formed, steps-shorter}
-use Rattle.solver.specs.Reported.{refused}
 use Rattle.solver.proofs.Solving.{says-refused, says-answer, work-zeroed}
 use Rattle.maker.proofs.Answers.{not-refused}
 use Rattle.demands.specs.Solved.{Counted, Answered}
@@ -27,24 +29,47 @@ use Rattle.demands.proofs.Answering.{needed, answered}
 use Rattle.demands.proofs.Counting.{some-trial, trials-counted}
 use Rattle.demands.proofs.Handed.{list-taken, gate-reads, reads-right, yes-or-no-leaves, made-formed, made-length, made-reading}
 
--- ---- demand 1: a fault is named by its number, the length reported is 0, and nothing lent is changed
+-- ---- demand 1: a fault is named by its number, its table and its record, the length reported is 0, and nothing lent is changed
 
 -- the solver: 10 to 19; trials 0 too
 pub demand-1-solver : (sheet : List ℕ) (budget : ℕ) (work out : List ℕ) (r : Report) (work′ out′ : List ℕ) → Solves reportOf sheet budget work out r work′ out′
-    → 0 < solverRefusal sheet (length work) (length out)
-    → (r ≡ refused (solverRefusal sheet (length work) (length out))) × (work′ ≡ work) × (out′ ≡ out)
+    → 0 < solverRefusal sheet (length work) (length out) .number
+    → (r ≡ reportOf (Refused (solverRefusal sheet (length work) (length out)))) × (work′ ≡ work) × (out′ ≡ out)
 demand-1-solver sheet budget work out r work′ out′ p h =
     let e = says-refused sheet budget work out h in
     (p .said ∙ ap reportOf e, p .cleared ∙ ap (λ (a : Said). workAfter a work) e, p .wrote ∙ ap (λ (a : Said). outAfter a out) e)
 
+-- whatever is answered, table and record are those that the number names
+pub demand-1-solver-names : (sheet : List ℕ) (budget : ℕ) (work out : List ℕ) (r : Report) (work′ out′ : List ℕ) → Solves reportOf sheet budget work out r work′ out′
+    → Names sheet (record { number = r .number; table = r .table; «record» = r .«record» })
+unfolding solverSays
+demand-1-solver-names sheet budget work out r work′ out′ p = rw (p .said) (go (eqb (solverRefusal sheet (length work) (length out) .number) 0) (answer-means (sheetOf sheet) budget))
+  where
+    said : (a : Said) → Means (sheetOf sheet) budget a → Names sheet (record { number = reportOf a .number; table = reportOf a .table; «record» = reportOf a .«record» })
+    said (Found w t) m = named-by sheet 0 refl
+    said (None t) m = named-by sheet 1 refl
+    said (Spent t) m = named-by sheet 2 refl
+    said (Refused f) m = absurd m
+
+    go : (b : Bool) → Means (sheetOf sheet) budget (under budget (walkOf (sheetOf sheet)))
+        → let a = whether b (under budget (walkOf (sheetOf sheet))) (Refused (solverRefusal sheet (length work) (length out))) in
+        Names sheet (record { number = reportOf a .number; table = reportOf a .table; «record» = reportOf a .«record» })
+    go true m = said (under budget (walkOf (sheetOf sheet))) m
+    go false m = solver-names sheet (length work) (length out)
+
 -- the maker: 10 to 17, then 20 to 22
 pub demand-1-maker : (sheet : List ℕ) (row n : ℕ) (space : List ℕ) (r : MakerReport) (space′ : List ℕ) → Makes (λ q. q) sheet row n space r space′
-    → 0 < makerRefusal sheet row n (length space)
-    → (r .number ≡ makerRefusal sheet row n (length space)) × (r .length ≡ 0) × (space′ ≡ space)
+    → 0 < makerRefusal sheet row n (length space) .number
+    → (r .number ≡ makerRefusal sheet row n (length space) .number) × (r .length ≡ 0) × (space′ ≡ space)
 unfolding makerSays spaceAfter
 demand-1-maker sheet row n space r space′ p h =
-    let e = ne-eqb (makerRefusal sheet row n (length space)) 0 (λ z. omega arith) in
+    let e = ne-eqb (makerRefusal sheet row n (length space) .number) 0 (λ z. omega arith) in
     (ap (λ (m : MakerReport). m .number) (p .said), ap (λ (m : MakerReport). m .length) (p .said) ∙ rw e, p .wrote ∙ rw e)
+
+pub demand-1-maker-names : (sheet : List ℕ) (row n : ℕ) (space : List ℕ) (r : MakerReport) (space′ : List ℕ) → Makes (λ q. q) sheet row n space r space′
+    → Names sheet (record { number = r .number; table = r .table; «record» = r .«record» })
+unfolding makerSays
+demand-1-maker-names sheet row n space r space′ p = rw (p .said) (maker-names sheet row n (length space))
 
 -- the gate, which reports its number alone: 30, 31, then 18
 pub demand-1-gate : (list text word work : List ℕ) (number : ℕ) (work′ : List ℕ) → Gates list text word work number work′
@@ -85,7 +110,7 @@ options-shorter list text w = steps-shorter list text (formed list text w)
 
 -- lent space for it, the maker of a row of an accepted sheet writes the list, and it is at the start of the space
 module _ (sheet : List ℕ) (row n : ℕ) (space : List ℕ) (r : MakerReport) (space′ : List ℕ) (p : Makes (λ q. q) sheet row n space r space′) (m : Makeable sheet row n space) where
-  none-refused : makerRefusal sheet row n (length space) ≡ 0
+  none-refused : makerRefusal sheet row n (length space) ≡ noFault
   none-refused = not-refused sheet row n (length space) (m .accepted) (m .in-sheet) (m .short) (m .room)
 
   list-size : r .length ≡ length (cutList (grammarOf sheet) row n)
@@ -102,7 +127,7 @@ module _ (sheet : List ℕ) (row n : ℕ) (space : List ℕ) (r : MakerReport) (
   pub list-written : ListWritten sheet row n space r space′
   unfolding makerSays
   list-written = record {
-    number = ap (λ (q : MakerReport). q .number) (p .said) ∙ none-refused;
+    number = ap (λ (q : MakerReport). q .number) (p .said) ∙ ap (λ (f : Fault). f .number) none-refused;
     size = list-size;
     bytes = list-bytes;
     shorter = rw list-there (options-shorter _ (length (textOf sheet)) (made-formed sheet row n (m .accepted) (m .in-sheet) (m .short)));

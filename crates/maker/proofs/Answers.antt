@@ -10,7 +10,8 @@ use borrow.Author.Tests.{eq-eqb, ne-eqb, lt-ltb, le-ltb, le-leb, lt-leb}
 use Rattle.paper.specs.Bytes.{u16, u32}
 use Rattle.paper.specs.Tests.{gather}
 use Rattle.paper.specs.Trailer.{countOf}
-use Rattle.paper.specs.Refusals.{latest, refusal, Accepted}
+use Rattle.paper.specs.Refusals as paper
+use Rattle.paper.specs.Refusals.{plain, noFault, latest, refusal, Accepted}
 use Rattle.paper.specs.Rows.{Grammar}
 use Rattle.paper.specs.Sheet.{grammarOf}
 use Rattle.paper.specs.Cuts.{groups, listTrailer, cutList}
@@ -23,6 +24,7 @@ use Rattle.numbers.proofs.Stores.{put-more, put-same, put-written}
 use Rattle.sheet_trailer.specs.declared.Table.{Table}
 use Rattle.sheet_trailer.specs.Tables.{TableOf}
 use Rattle.sheet.specs.declared.Fault.{Fault}
+use Rattle.sheet.specs.Told.{told}
 use Rattle.sheet.proofs.Good.{good}
 use Rattle.maker_options.specs.Prepared.{Offsets, JobOf}
 use Rattle.maker_groups.specs.Parts.{mark}
@@ -60,37 +62,37 @@ list-length g root n = rw add-one (sym (length-list g root n))
 -- ---- the numbers
 
 module _ (s : List ℕ) (row n space : ℕ) where
-  pub refused-sheet : (refusal latest s ≡ 0 → ⊥) → makerRefusal s row n space ≡ refusal latest s
+  pub refused-sheet : (refusal latest s .number ≡ 0 → ⊥) → makerRefusal s row n space ≡ refusal latest s
   unfolding makerRefusal
-  refused-sheet h = rw (ne-eqb (refusal latest s) 0 h)
+  refused-sheet h = rw (ne-eqb (refusal latest s .number) 0 h)
 
   module _ (a : Accepted s) where
-    pub refused-row : countOf s 2 ≤ row → makerRefusal s row n space ≡ 20
+    pub refused-row : countOf s 2 ≤ row → makerRefusal s row n space ≡ plain 20
     unfolding makerRefusal
-    refused-row h = rw (eq-eqb (refusal latest s) 0 a, le-ltb row (countOf s 2) h)
+    refused-row h = rw (eq-eqb (refusal latest s .number) 0 a, le-ltb row (countOf s 2) h)
 
     module _ (b : row < countOf s 2) where
-      pub refused-length : 60 < n → makerRefusal s row n space ≡ 21
+      pub refused-length : 60 < n → makerRefusal s row n space ≡ plain 21
       unfolding makerRefusal
-      refused-length h = rw (eq-eqb (refusal latest s) 0 a, lt-ltb row (countOf s 2) b, lt-leb n 60 h)
+      refused-length h = rw (eq-eqb (refusal latest s .number) 0 a, lt-ltb row (countOf s 2) b, lt-leb n 60 h)
 
-      pub refused-space : n ≤ 60 → space < length (cutList (grammarOf s) row n) → makerRefusal s row n space ≡ 22
+      pub refused-space : n ≤ 60 → space < length (cutList (grammarOf s) row n) → makerRefusal s row n space ≡ plain 22
       unfolding makerRefusal
-      refused-space c h = rw (eq-eqb (refusal latest s) 0 a, lt-ltb row (countOf s 2) b, le-leb n 60 c, lt-leb (length (cutList (grammarOf s) row n)) space h)
+      refused-space c h = rw (eq-eqb (refusal latest s .number) 0 a, lt-ltb row (countOf s 2) b, le-leb n 60 c, lt-leb (length (cutList (grammarOf s) row n)) space h)
 
-      pub not-refused : n ≤ 60 → length (cutList (grammarOf s) row n) ≤ space → makerRefusal s row n space ≡ 0
+      pub not-refused : n ≤ 60 → length (cutList (grammarOf s) row n) ≤ space → makerRefusal s row n space ≡ noFault
       unfolding makerRefusal
-      not-refused c h = rw (eq-eqb (refusal latest s) 0 a, lt-ltb row (countOf s 2) b, le-leb n 60 c, le-leb (length (cutList (grammarOf s) row n)) space h)
+      not-refused c h = rw (eq-eqb (refusal latest s .number) 0 a, lt-ltb row (countOf s 2) b, le-leb n 60 c, le-leb (length (cutList (grammarOf s) row n)) space h)
 
 -- ---- what is said, and what is left
 
 module _ (s : List ℕ) (row n : ℕ) (old : List ℕ) where
   -- a refusal reports its number and changes nothing
-  pub answer-refused : (f : Fault) → makerRefusal s row n (length old) ≡ f .number → (f .number ≡ 0 → ⊥) → Makes made s row n old (Refused f) old
+  pub answer-refused : (x : paper.Fault) (f : Fault) → makerRefusal s row n (length old) ≡ x → f ≡ told x → (x .number ≡ 0 → ⊥) → Makes made s row n old (Refused f) old
   unfolding makerSays spaceAfter
-  answer-refused f e h = record { said = rw (e, ne-eqb (f .number) 0 h); wrote = rw (e, ne-eqb (f .number) 0 h) }
+  answer-refused x f e t h = record { said = rw (t, e, ne-eqb (x .number) 0 h); wrote = rw (e, ne-eqb (x .number) 0 h) }
 
-  pub answer-written : (k : ℕ) (now : List ℕ) → makerRefusal s row n (length old) ≡ 0 → k ≡ length (cutList (grammarOf s) row n) → now ≡ written (cutList (grammarOf s) row n) old
+  pub answer-written : (k : ℕ) (now : List ℕ) → makerRefusal s row n (length old) ≡ noFault → k ≡ length (cutList (grammarOf s) row n) → now ≡ written (cutList (grammarOf s) row n) old
       → Makes made s row n old (Written k) now
   unfolding makerSays spaceAfter
   answer-written k now e h w = record { said = rw (e, h); wrote = rw e w }

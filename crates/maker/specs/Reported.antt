@@ -6,9 +6,9 @@ use Rattle.maker.specs.declared.Made.{Made}
 use Rattle.maker.specs.declared.Made.the-variants.{Written, Refused}
 
 abbrev pub made : MakerReport → Made
-made r = cond (eqb (r .number) 0) (Written (r .length)) (Refused (record { number = r .number }))
+made r = cond (eqb (r .number) 0) (Written (r .length)) (Refused (record { number = r .number; table = r .table; «record» = r .«record» }))
 
--- 0 and the list's length, or the refusal's number and no length
+-- 0 and the list's length, or the fault and no length
 abbrev pub reported : Made → MakerReport
-reported (Written k) = record { number = 0; length = k }
-reported (Refused f) = record { number = f .number; length = 0 }
+reported (Written k) = record { number = 0; table = 0; «record» = 0; length = k }
+reported (Refused f) = record { number = f .number; table = f .table; «record» = f .«record»; length = 0 }

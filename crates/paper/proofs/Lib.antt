@@ -19,3 +19,4 @@ pub mod Obeys
 pub mod Positions
 pub mod WellFormed
 pub mod Reading
+pub mod Faults

@@ -7,6 +7,7 @@ pub mod Terms
 pub mod Sheet
 pub mod Records
 pub mod Refusals
+pub mod Names
 pub mod Satisfy
 pub mod Open
 pub mod Decide

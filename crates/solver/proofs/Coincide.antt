@@ -19,4 +19,4 @@ pub reports : (a : Said) → reported (solved a) ≡ reportOf a
 reports (paper.Found w t) = refl
 reports (paper.None t) = refl
 reports (paper.Spent b) = refl
-reports (paper.Refused n) = refl
+reports (paper.Refused f) = refl

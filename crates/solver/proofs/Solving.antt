@@ -2,13 +2,13 @@
 use Prim.Native.Nat.{ℕ, _<_, _≤_}
 use mathlib.Core.Path.{_≡_, refl, sym, ap, fun-ext, transport, _∙_}
 use mathlib.Core.Bool.{Bool}
-use mathlib.Core.Logic.{_≢_}
 use mathlib.Core.List.{List, _++_}
 use native.Mathlib.Omega.{arith}
 use borrow.Author.Tests.{le-leb, lt-leb, eq-eqb, ne-eqb}
 use lib.ListN.{length, drop}
 use Rattle.paper.specs.Trailer.{longest, shortest}
-use Rattle.paper.specs.Refusals.{latest, refusal}
+use Rattle.paper.specs.Refusals as paper
+use Rattle.paper.specs.Refusals.{plain, latest, refusal}
 use Rattle.paper.specs.Sheet.{Sheet, sheetOf, letter}
 use Rattle.paper.specs.Opens.{opens}
 use Rattle.paper.specs.Walk.{walk}
@@ -20,6 +20,7 @@ use Rattle.walk_state.specs.Letters.{hasLetter}
 use Rattle.search.specs.Tells.{Tells}
 use Rattle.search.specs.declared.Sought.{Sought}
 use Rattle.sheet.specs.declared.Fault.{Fault}
+use Rattle.sheet.specs.Told.{told}
 use Rattle.solver.specs.declared.Solved.{Solved}
 use Rattle.solver.specs.declared.Solved.the-variants as case
 use Rattle.solver.specs.Reported.{solved}
@@ -72,30 +73,30 @@ cleared-same s budget work w v k e =
 
 module _ (s : List ℕ) (budget : ℕ) (work out : List ℕ) where
   -- a refusal as the promise words it
-  pub refusing : (f : Fault) → says s budget work out ≡ Refused (f .number) → Solves solved s budget work out (case.Refused f) work out
-  refusing f e = record { said = rw e; cleared = rw e; wrote = rw e }
+  pub refusing : (x : paper.Fault) (f : Fault) → says s budget work out ≡ Refused x → f ≡ told x → Solves solved s budget work out (case.Refused f) work out
+  refusing x f e t = record { said = rw (e, t); cleared = rw e; wrote = rw e }
 
   -- an answer as the promise words it
   pub answering : (r : Solved) (work′ out′ : List ℕ) → let a = under budget (walkOf (sheetOf s)) in
       says s budget work out ≡ a → (r ≡ solved a) × ((work′ ≡ workAfter a work) × (out′ ≡ outAfter a out)) → Solves solved s budget work out r work′ out′
   answering r work′ out′ e p = record { said = rw e (p .0); cleared = rw e (p .1 .0); wrote = rw e (p .1 .1) }
 
-  pub says-refused : 0 < solverRefusal s (length work) (length out) → says s budget work out ≡ Refused (solverRefusal s (length work) (length out))
+  pub says-refused : 0 < solverRefusal s (length work) (length out) .number → says s budget work out ≡ Refused (solverRefusal s (length work) (length out))
   unfolding solverSays
-  says-refused h = rw (ne-eqb (solverRefusal s (length work) (length out)) 0 (λ e. omega arith))
+  says-refused h = rw (ne-eqb (solverRefusal s (length work) (length out) .number) 0 (λ e. omega arith))
 
-  pub says-sheet : (n : ℕ) → n ≡ refusal latest s → n ≢ 0 → says s budget work out ≡ Refused n
+  pub says-sheet : (refusal latest s .number ≡ 0 → ⊥) → says s budget work out ≡ Refused (refusal latest s)
   unfolding solverSays solverRefusal
-  says-sheet n e h = rw (← e, ne-eqb n 0 h, ne-eqb n 0 h)
+  says-sheet h = rw (ne-eqb (refusal latest s .number) 0 h, ne-eqb (refusal latest s .number) 0 h)
 
-  pub says-18 : refusal latest s ≡ 0 → length work < 7564 → says s budget work out ≡ Refused 18
+  pub says-18 : refusal latest s .number ≡ 0 → length work < 7564 → says s budget work out ≡ Refused (plain 18)
   unfolding solverSays solverRefusal words
-  says-18 a h = rw (eq-eqb (refusal latest s) 0 a, lt-leb 7564 (length work) h)
+  says-18 a h = rw (eq-eqb (refusal latest s .number) 0 a, lt-leb 7564 (length work) h)
 
-  pub says-19 : refusal latest s ≡ 0 → 7564 ≤ length work → length out < longest s → says s budget work out ≡ Refused 19
+  pub says-19 : refusal latest s .number ≡ 0 → 7564 ≤ length work → length out < longest s → says s budget work out ≡ Refused (plain 19)
   unfolding solverSays solverRefusal words
-  says-19 a h l = rw (eq-eqb (refusal latest s) 0 a, le-leb 7564 (length work) h, lt-leb (longest s) (length out) l)
+  says-19 a h l = rw (eq-eqb (refusal latest s .number) 0 a, le-leb 7564 (length work) h, lt-leb (longest s) (length out) l)
 
-  pub says-answer : refusal latest s ≡ 0 → 7564 ≤ length work → longest s ≤ length out → says s budget work out ≡ under budget (walkOf (sheetOf s))
+  pub says-answer : refusal latest s .number ≡ 0 → 7564 ≤ length work → longest s ≤ length out → says s budget work out ≡ under budget (walkOf (sheetOf s))
   unfolding solverSays solverRefusal words
-  says-answer a h l = rw (eq-eqb (refusal latest s) 0 a, le-leb 7564 (length work) h, le-leb (longest s) (length out) l)
+  says-answer a h l = rw (eq-eqb (refusal latest s .number) 0 a, le-leb 7564 (length work) h, le-leb (longest s) (length out) l)

@@ -75,7 +75,7 @@ fn answer(s: &[u8], budget: u64, work: &mut [u64], out: &mut [u8]) -> Solved
 
 // 18 and 19, of an accepted sheet; then its answer.
 fn lent(s: &[u8], budget: u64, work: &mut [u64], out: &mut [u8]) -> Solved
-    requires { ⌜ refusal latest (now s) ≡ 0 ⌝ }
+    requires { ⌜ refusal latest (now s) .number ≡ 0 ⌝ }
     ensures { λ r. ⌜ Solves solved (now (s .entry)) budget (now (work .entry)) (now (out .entry)) r (now (work .exit)) (now (out .exit)) ⌝ }
 {
     if work.len() < paper::WORDS {

@@ -30,9 +30,18 @@ fn say_word(word: &[u8], len: usize) {
     }
 }
 
-fn say_refused(number: u64) {
+// The number; table and record behind it where the number names them.
+fn say_refused(f: sheet::Fault) {
     say(b"refused");
-    say_number(number);
+    let number = f.number;
+    say_number(number as u64);
+    match number {
+        14 | 16 | 17 => {
+            say_number(f.table as u64);
+            say_number(f.record as u64);
+        }
+        _ => {}
+    }
 }
 
 fn say_found(length: u64, trials: u64) {
@@ -59,7 +68,7 @@ fn answer(sheet: &[u8]) {
             say(b"spent");
             say_number(trials);
         }
-        solver::Solved::Refused(f) => say_refused(f.number as u64),
+        solver::Solved::Refused(f) => say_refused(f),
     }
     say(b"\n");
 }

@@ -4,16 +4,16 @@ use Rattle.strovimel_c.specs.declared.Solved.{Solved}
 use Rattle.strovimel_c.specs.declared.Made.{Made}
 
 abbrev pub structOf : Report → Solved
-structOf r = record { number = r .number; length = r .length; trials = r .trials }
+structOf r = record { number = r .number; table = r .table; «record» = r .«record»; length = r .length; trials = r .trials }
 
 abbrev pub solvedOf : Said → Solved
 solvedOf a = structOf (reportOf a)
 
 abbrev pub solvedReport : Solved → Report
-solvedReport r = record { number = r .number; length = r .length; trials = r .trials }
+solvedReport r = record { number = r .number; table = r .table; «record» = r .«record»; length = r .length; trials = r .trials }
 
 abbrev pub madeOf : MakerReport → Made
-madeOf r = record { number = r .number; length = r .length }
+madeOf r = record { number = r .number; table = r .table; «record» = r .«record»; length = r .length }
 
 abbrev pub madeReport : Made → MakerReport
-madeReport r = record { number = r .number; length = r .length }
+madeReport r = record { number = r .number; table = r .table; «record» = r .«record»; length = r .length }

@@ -6,18 +6,22 @@ ghost use Rattle.solver.specs.Reported.{reported};
 ghost use Rattle.maker.specs.Reported.{reported as making};
 ghost use Rattle.strovimel_c.specs.Structs.{solvedOf, solvedReport, madeOf, madeReport};
 
-// The solver's answer: its number, the word's length, the trials.
+// The solver's answer: its number, the table and the record at fault, the word's length, the trials.
 #[repr(C)]
 pub struct Solved {
     pub number: u32,
+    pub table: u32,
+    pub record: u32,
     pub length: u32,
     pub trials: u64,
 }
 
-// The maker's answer: its number, the list's length.
+// The maker's answer: its number, the table and the record at fault, the list's length.
 #[repr(C)]
 pub struct Made {
     pub number: u32,
+    pub table: u32,
+    pub record: u32,
     pub length: u32,
 }
 
@@ -28,21 +32,29 @@ fn tell_solved(a: solver::Solved) -> Solved
     match a {
         solver::Solved::Found(length, trials) => Solved {
             number: 0,
+            table: 0,
+            record: 0,
             length: length as u32,
             trials: trials,
         },
         solver::Solved::None(trials) => Solved {
             number: 1,
+            table: 0,
+            record: 0,
             length: 0,
             trials: trials,
         },
         solver::Solved::Spent(trials) => Solved {
             number: 2,
+            table: 0,
+            record: 0,
             length: 0,
             trials: trials,
         },
         solver::Solved::Refused(f) => Solved {
             number: f.number,
+            table: f.table,
+            record: f.record,
             length: 0,
             trials: 0,
         },
@@ -56,10 +68,14 @@ fn tell_made(a: maker::Made) -> Made
     match a {
         maker::Made::Written(length) => Made {
             number: 0,
+            table: 0,
+            record: 0,
             length: length as u32,
         },
         maker::Made::Refused(f) => Made {
             number: f.number,
+            table: f.table,
+            record: f.record,
             length: 0,
         },
     }
