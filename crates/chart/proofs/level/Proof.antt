@@ -15,9 +15,6 @@ Inv-loop s rows places lay work₀ m n i₀ work i = (i + m ≤ length places + 
 abbrev μ-loop : tie.MeasureT-loop
 μ-loop s rows places lay work₀ m n i₀ work i = length places + 1 - (i + m)
 
-loop-holds : tie.Need-loop-holds Inv-loop μ-loop
-loop-holds c = (omega arith, c .before .before .before .before .pre .3, within-none _)
-
 cell-requires : tie.Need-cell-requires Inv-loop μ-loop
 cell-requires c κs =
     let l = c .before .before .loop in
@@ -40,7 +37,7 @@ level-spec =
     (tie.spec
     Inv-loop
     μ-loop
-    loop-holds
+    (λ c. (omega arith, c .before .before .before .before .pre .3, within-none _))
     (λ c. omega arith)
     cell-requires
     (λ c. omega arith)

@@ -6,10 +6,6 @@ use borrow.Author.Needs.{needs}
 use Rattle.chart_cells.proofs.Carrying.{Carrying, carry-start, carry-turn, carry-done, carry-none}
 use Rattle.chart_cells.proofs.carry.Statement.{statement}
 use Rattle.chart_cells.proofs.carry.Tie as tie
-use Rattle.chart_cells.proofs.carry.Reads as reads
-use Rattle.chart_cells.proofs.carry.Lts as lts
-use Rattle.chart_cells.proofs.bring.Reads as bring-reads
-use Rattle.workspace.proofs.none.Reads as none-reads
 
 -- the rows that reach one of the first q that the span held are added
 abbrev Inv-loop : tie.InvT-loop

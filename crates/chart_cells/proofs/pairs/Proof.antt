@@ -8,10 +8,6 @@ use Rattle.chart_cells.proofs.Adding.{adds-none}
 use Rattle.chart_cells.proofs.Splitting.{paired-none, pairs-turn}
 use Rattle.chart_cells.proofs.pairs.Statement.{statement}
 use Rattle.chart_cells.proofs.pairs.Tie as tie
-use Rattle.chart_cells.proofs.pairs.Reads as reads
-use Rattle.chart_cells.proofs.pairs.Lts as lts
-use Rattle.chart_cells.proofs.both.Reads as both-reads
-use Rattle.chart_cells.proofs.put.Reads as put-reads
 
 -- the rows that the first j pairs split over the two spans are added
 abbrev Inv-loop : tie.InvT-loop

@@ -3,9 +3,6 @@ use borrow.Author.Needs.{needs}
 use Rattle.chart_cells.proofs.Adding.{adds-put}
 use Rattle.chart_cells.proofs.put.Statement.{statement}
 use Rattle.chart_cells.proofs.put.Tie as tie
-use Rattle.chart_cells.proofs.put.Reads as reads
-use Rattle.chart_cells.proofs.put.Lts as lts
-use Rattle.workspace.proofs.put.Reads as put-reads
 
 returns : tie.Need-returns
 returns c =

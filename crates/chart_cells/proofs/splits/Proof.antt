@@ -10,10 +10,6 @@ use Rattle.chart_cells.proofs.Adding.{adds-none}
 use Rattle.chart_cells.proofs.Splitting.{left-next, right-is, left-apart, right-apart, parted-none, split-turn, no-pairs}
 use Rattle.chart_cells.proofs.splits.Statement.{statement}
 use Rattle.chart_cells.proofs.splits.Tie as tie
-use Rattle.chart_cells.proofs.splits.Reads as reads
-use Rattle.chart_cells.proofs.splits.Lts as lts
-use Rattle.chart_cells.proofs.split.Reads as split-reads
-use Rattle.workspace.proofs.span.Reads as span-reads
 
 -- the rows of the splits after fewer than k places are added, and `left` is the span of the first k
 abbrev Inv-loop : tie.InvT-loop

@@ -16,9 +16,6 @@ Inv-loop s t mask₀ q₀ mask q = (q ≤ t .count) × Lengths (grammarOf s) q m
 abbrev μ-loop : tie.MeasureT-loop
 μ-loop s t mask₀ q₀ mask q = t .count - q
 
-loop-holds : tie.Need-loop-holds Inv-loop μ-loop
-loop-holds c = (omega arith, λ q off m h. absurd (not-suc-le-zero h))
-
 loop-again : tie.Need-loop-again Inv-loop μ-loop
 loop-again c = (omega arith, lengths-more _ (c .before .before .before .before .loop .q) _ _ (c .before .before .before .before .loop .inv .1) (rw (c .before .row-at .ensures .same) at (c .tell-length .ensures)))
 
@@ -31,7 +28,7 @@ lengths-spec =
     (tie.spec
     Inv-loop
     μ-loop
-    loop-holds
+    (λ c. (omega arith, λ q off m h. absurd (not-suc-le-zero h)))
     (λ c κs. (c .before .before .before .before .pre .good, c .before .before .before .before .pre .table, omega arith))
     (λ c κs. search needs)
     (λ c. omega arith)

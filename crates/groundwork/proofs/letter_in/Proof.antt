@@ -18,9 +18,6 @@ Inv-loop s low high n k₀ k = (k ≤ n) × (anyBelow k (letterFrom (sheetOf s) 
 abbrev μ-loop : tie.MeasureT-loop
 μ-loop s low high n k₀ k = n - k
 
-loop-holds : tie.Need-loop-holds Inv-loop μ-loop
-loop-holds c = (omega arith, any-none _)
-
 returns : tie.Need-returns Inv-loop μ-loop
 returns c =
     let a = c .before .before .before .before .before .args in
@@ -44,7 +41,7 @@ letter-in-spec =
     μ-loop
     (λ c. omega arith)
     (λ c. omega arith)
-    loop-holds
+    (λ c. (omega arith, any-none _))
     (λ c. omega arith)
     (λ c. omega arith)
     (λ c κs. c .before .before .before .pre .0)

@@ -16,9 +16,6 @@ Inv-loop s t out₀ j₀ q₀ out j q = (q ≤ t .count) × Pairs (grammarOf s) 
 abbrev μ-loop : tie.MeasureT-loop
 μ-loop s t out₀ j₀ q₀ out j q = t .count - q
 
-loop-holds : tie.Need-loop-holds Inv-loop μ-loop
-loop-holds c = (omega arith, pairs-none _ _, below-refl _)
-
 pair-requires : tie.Need-pair-requires Inv-loop μ-loop
 pair-requires c κs =
     let here = c .before .before .before .before .before .before .before .pre .0 in
@@ -40,7 +37,7 @@ pairs-spec =
     (tie.spec
     Inv-loop
     μ-loop
-    loop-holds
+    (λ c. (omega arith, pairs-none _ _, below-refl _))
     (λ c κs. (c .before .before .before .before .before .before .pre .0 .good, c .before .before .before .before .before .before .pre .0 .table, omega arith))
     pair-requires
     (λ c. omega arith)

@@ -14,9 +14,6 @@ Inv-loop s v lay work₀ parts assertions held₀ i₀ work held i = Upto s v i 
 abbrev μ-loop : tie.MeasureT-loop
 μ-loop s v lay work₀ parts assertions held₀ i₀ work held i = assertions .count - i
 
-loop-holds : tie.Need-loop-holds Inv-loop μ-loop
-loop-holds c = rw (c .none .ensures) (upto-none _ _ _)
-
 possible-requires : tie.Need-possible-requires Inv-loop μ-loop
 possible-requires c κs =
     let s = c .before .before .before .before .before .before .before .before .before .before .before in
@@ -39,7 +36,7 @@ opens-on-spec =
     (λ c κs. (c .before .before .before .pre .0 .good .trailed, omega arith))
     (λ c κs. (c .before .before .before .before .pre .0 .good .trailed, omega arith))
     (λ c κs. search needs)
-    loop-holds
+    (λ c. rw (c .none .ensures) (upto-none _ _ _))
     (λ c κs. (c .before .before .before .before .before .before .before .before .before .pre .0 .good, c .before .before .before .before .table-of2 .ensures .0, c .if1 .taken))
     possible-requires
     (λ c. omega (arith, c .before .before .before .before .before .before .before .before .before .before .before .table-of2 .ensures .2, c .before .before .before .before .before .before .before .if1 .taken))

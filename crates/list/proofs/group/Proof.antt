@@ -20,9 +20,6 @@ abbrev μ-loop : tie.MeasureT-loop
 μ-loop list t text m at rows o₀ r₀ o r =
     rows - r
 
-loop-holds : tie.Need-loop-holds Inv-loop μ-loop
-loop-holds c = (omega arith, c .before .pre .1 ∙ head-first _ _, omega arith, all-none _)
-
 loop-again : tie.Need-loop-again Inv-loop μ-loop
 loop-again c =
     let a = c .before .before .before .before .before .before .before .args in
@@ -50,7 +47,7 @@ group-spec =
     (tie.spec
     Inv-loop
     μ-loop
-    loop-holds
+    (λ c. (omega arith, c .before .pre .1 ∙ head-first _ _, omega arith, all-none _))
     (λ c κs. (c .before .before .before .pre .0, c .before .loop .inv .1, omega arith))
     (λ c. search needs)
     (λ c. omega arith)

@@ -20,9 +20,6 @@ abbrev μ-loop : tie.MeasureT-loop
 μ-loop list t text n base at₀ m₀ at m =
     n + 1 - m
 
-loop-holds : tie.Need-loop-holds Inv-loop μ-loop
-loop-holds c = (omega arith, group-none _, omega arith, all-none _)
-
 returns : tie.Need-returns Inv-loop μ-loop
 returns c =
     let a = c .before .before .before .before .before .args in
@@ -66,7 +63,7 @@ groups-spec =
     (tie.spec
     Inv-loop
     μ-loop
-    loop-holds
+    (λ c. (omega arith, group-none _, omega arith, all-none _))
     (λ c. omega arith)
     (λ c. omega arith)
     (λ c κs. omega arith)

@@ -18,9 +18,6 @@ abbrev μ-loop : tie.MeasureT-loop
 μ-loop list t text m o count j₀ j =
     count - j
 
-loop-holds : tie.Need-loop-holds Inv-loop μ-loop
-loop-holds c = (omega arith, all-none _)
-
 loop-again : tie.Need-loop-again Inv-loop μ-loop
 loop-again c = (omega arith, all-more _ _ (c .before .before .before .loop .inv .1) (sym (c .before .option-ok .ensures) ∙ c .if1 .taken))
 
@@ -38,7 +35,7 @@ options-ok-spec =
     (tie.spec
     Inv-loop
     μ-loop
-    loop-holds
+    (λ c. (omega arith, all-none _))
     (λ c. omega arith)
     (λ c. omega arith)
     (λ c κs. (c .before .before .before .pre .0, omega arith))

@@ -3,9 +3,6 @@ use borrow.Author.Tests.{lt-ltb, le-ltb}
 use Rattle.list.proofs.split_ok.Statement.{statement}
 use Rattle.list.proofs.split_ok.Tie as tie
 
-returns : tie.Need-returns
-returns c = rw (le-ltb _ _ (c .if1 .taken))
-
 returns-2 : tie.Need-returns-2
 returns-2 c =
     let a = c .before .before .before .before .args in
@@ -22,4 +19,4 @@ returns-4 c =
     rw (lt-ltb 0 (a .f .k) (omega arith), lt-ltb (a .f .k) (a .m) (omega arith), le-ltb _ _ (c .if3 .left))
 
 pub split-ok-spec : {M : Type 1} → statement M
-split-ok-spec = tie.close (tie.spec returns returns-2 returns-3 returns-4)
+split-ok-spec = tie.close (tie.spec (λ c. rw (le-ltb _ _ (c .if1 .taken))) returns-2 returns-3 returns-4)

@@ -4,24 +4,6 @@ use native.Mathlib.Omega.{arith}
 use borrow.Author.Needs.{needs}
 use Rattle.search.proofs.judged.Statement.{statement}
 use Rattle.search.proofs.judged.Tie as tie
-use Rattle.search.proofs.judged.Reads as reads
-use Rattle.search.proofs.judged.Lts as lts
-use Rattle.judge.proofs.opens.Reads as opens-reads
-
-sub-opens : tie.Need-sub-opens
-sub-opens c = search needs
-
-part-opens-start : tie.Need-part-opens-start
-part-opens-start c = search needs
-
-part-opens-end : tie.Need-part-opens-end
-part-opens-end c = search needs
-
-opens-requires : tie.Need-opens-requires
-opens-requires c κs = search needs
-
-same-length : tie.Need-same-length
-same-length c = search needs
 
 returns : tie.Need-returns
 returns c =
@@ -31,4 +13,4 @@ returns c =
 pub judged-spec : {M : Type 1} → statement M
 judged-spec =
     tie.close
-    (tie.spec sub-opens part-opens-start part-opens-end opens-requires same-length returns)
+    (tie.spec (λ c. search needs) (λ c. search needs) (λ c. search needs) (λ c κs. search needs) (λ c. search needs) returns)

@@ -12,14 +12,6 @@ use Rattle.walk.proofs.Seek.{Seeking, seek-start, seek-found, seek-spent, seek-
 use Rattle.search.proofs.Tellings.{tells-found, tells-none, tells-spent}
 use Rattle.search.proofs.seek.Statement.{statement}
 use Rattle.search.proofs.seek.Tie as tie
-use Rattle.search.proofs.seek.Reads as reads
-use Rattle.search.proofs.seek.Lts as lts
-use Rattle.search.proofs.judged.Reads as judged-reads
-use Rattle.search.proofs.wordless.Reads as wordless-reads
-use Rattle.walk_state.proofs.State.again.Reads as again-reads
-use Rattle.walk_state.proofs.State.start.Reads as start-reads
-use Rattle.walk.proofs.advance.Reads as advance-reads
-use Rattle.walk.proofs.is_word.Reads as is-word-reads
 
 abbrev Inv-loop : tie.InvT-loop
 Inv-loop s letters slot lo hi budget lay work₀ counts₀ n₀ q₀ work counts n q = Seeking (hasLetter (letters .of)) slot (opens (sheetOf s)) lo hi budget n q counts × (length counts ≡ 480) × Within work₀ work
@@ -27,14 +19,8 @@ Inv-loop s letters slot lo hi budget lay work₀ counts₀ n₀ q₀ work counts
 abbrev μ-loop : tie.MeasureT-loop
 μ-loop s letters slot lo hi budget lay work₀ counts₀ n₀ q₀ work counts n q = budget - q .trials
 
-start-requires : tie.Need-start-requires Inv-loop μ-loop
-start-requires c κs = tt
-
 loop-holds : tie.Need-loop-holds Inv-loop μ-loop
 loop-holds c = (seek-start _ _ _ _ _ _ (c .start .result) _ (c .start .ensures) (c .before .before .before .before .pre .1) (omega (arith, c .before .before .before .before .pre .0 .good .short, c .before .before .before .before .pre .2)) (search needs), search needs, within-none _)
-
-slice-aggregate-judged : tie.Need-slice-aggregate-judged Inv-loop μ-loop
-slice-aggregate-judged c = sym (c .before .before .before .before .before .loop .inv .0 .frame .letters)
 
 judged-requires : tie.Need-judged-requires Inv-loop μ-loop
 judged-requires c κs =
@@ -42,9 +28,6 @@ judged-requires c κs =
     let start = c .before .before .before .before .before .before .before .before .before .before .before in
     let room : 7564 ≤ length (c .before .before .before .before .before .before .loop .work) = omega (arith, c .before .before .before .before .before .before .loop .inv .2 .long, start .pre .0 .room) in
     (record { good = start .pre .0 .good; ground = start .pre .0 .ground; room = room }, i .within, omega (arith, i .frame .letters, i .within, i .range, i .top), omega (arith, i .range, start .pre .2))
-
-is-word-requires : tie.Need-is-word-requires Inv-loop μ-loop
-is-word-requires c κs = tt
 
 add-t21 : tie.Need-add-t21 Inv-loop μ-loop
 add-t21 c = omega (arith, c .before .before .before .before .before .before .before .before .before .before .if1 .taken, c .before .before .before .before .before .before .before .before .before .before .before .before .before .before .before .before .before .fits .budget)
@@ -71,9 +54,6 @@ advance-requires c κs =
     let i = c .before .before .before .before .before .before .before .before .before .before .before .before .loop .inv .0 in
     (omega (arith, i .range, i .top), i .within, (λ o. omega (arith, i .within, w .short (c .before .if2 .left) o)), c .before .before .before .before .before .before .before .before .before .before .if1 .taken, i .fine, i .frame .marks, c .before .before .before .before .before .before .before .before .before .before .before .before .before .before .before .before .before .pre .4, omega (arith, c .before .before .before .before .before .before .before .before .before .before .before .before .loop .inv .1))
 
-wordless-requires : tie.Need-wordless-requires Inv-loop μ-loop
-wordless-requires c κs = tt
-
 same-length-2 : tie.Need-same-length-2 Inv-loop μ-loop
 same-length-2 c = (within-then _ _ _ (c .before .before .before .before .before .before .before .before .before .before .before .before .before .before .before .before .loop .inv .2) (c .before .before .before .before .before .before .before .before .before .judged .ensures .1)) .long
 
@@ -83,9 +63,6 @@ returns-2 c = (
       (seek-over _ _ _ _ _ _ _ _ _ (c .before .before .before .before .before .before .before .before .before .before .before .before .before .before .before .before .loop .inv .0) (c .before .before .before .before .before .before .before .before .before .before .before .before .before .before .before .before .before .before .before .before .before .pre .3) _ (c .before .before .before .advance .result) _ (c .before .before .before .advance .ensures) (sym (c .before .before .before .before .before .before .before .before .before .judged .ensures .0)) (c .before .if3 .taken)),
   within-then _ _ _ (c .before .before .before .before .before .before .before .before .before .before .before .before .before .before .before .before .loop .inv .2) (c .before .before .before .before .before .before .before .before .before .judged .ensures .1),
 )
-
-wordless-requires-2 : tie.Need-wordless-requires-2 Inv-loop μ-loop
-wordless-requires-2 c κs = tt
 
 same-length-3 : tie.Need-same-length-3 Inv-loop μ-loop
 same-length-3 c = (within-then _ _ _ (c .before .before .before .before .before .before .before .before .before .before .before .before .before .before .before .before .before .before .before .loop .inv .2) (c .before .before .before .before .before .before .before .before .before .before .before .before .judged .ensures .1)) .long
@@ -99,9 +76,6 @@ returns-3 c = (
 
 add-n : tie.Need-add-n Inv-loop μ-loop
 add-n c = omega (arith, c .before .before .before .before .before .before .before .before .before .before .before .before .before .before .before .before .before .before .loop .inv .0 .range, c .before .before .before .before .before .before .before .before .before .before .before .before .before .before .before .before .before .before .loop .inv .0 .top)
-
-again-requires : tie.Need-again-requires Inv-loop μ-loop
-again-requires c κs = tt
 
 loop-less : tie.Need-loop-less Inv-loop μ-loop
 loop-less c = rw (c .again .ensures) (omega (arith, c .before .before .before .before .before .before .advance .ensures .more, c .before .before .before .before .before .before .before .before .before .before .before .before .before .before .before .before .before .if1 .taken))
@@ -123,12 +97,6 @@ loop-again-2 c = (
   within-then _ _ _ (c .before .before .before .before .before .before .before .before .before .before .before .before .before .before .before .before .before .loop .inv .2) (c .before .before .before .before .before .before .before .before .before .before .judged .ensures .1),
 )
 
-wordless-requires-3 : tie.Need-wordless-requires-3 Inv-loop μ-loop
-wordless-requires-3 c κs = tt
-
-same-length-4 : tie.Need-same-length-4 Inv-loop μ-loop
-same-length-4 c = c .before .before .before .loop .inv .2 .long
-
 returns-4 : tie.Need-returns-4 Inv-loop μ-loop
 returns-4 c = (tells-spent _ _ (c .wordless3 .result) _ (search needs) (c .wordless3 .ensures) (seek-spent _ _ _ _ _ _ _ _ _ (c .before .before .before .loop .inv .0) (c .before .if1 .left)), c .before .before .before .loop .inv .2)
 
@@ -138,28 +106,28 @@ seek-spec =
     (tie.spec
     Inv-loop
     μ-loop
-    start-requires
+    (λ c κs. tt)
     loop-holds
-    slice-aggregate-judged
+    (λ c. sym (c .before .before .before .before .before .loop .inv .0 .frame .letters))
     judged-requires
-    is-word-requires
+    (λ c κs. tt)
     add-t21
     same-length
     returns
     slice-aggregate-advance
     advance-requires
-    wordless-requires
+    (λ c κs. tt)
     same-length-2
     returns-2
-    wordless-requires-2
+    (λ c κs. tt)
     same-length-3
     returns-3
     add-n
-    again-requires
+    (λ c κs. tt)
     loop-less
     loop-again
     loop-less-2
     loop-again-2
-    wordless-requires-3
-    same-length-4
+    (λ c κs. tt)
+    (λ c. c .before .before .before .loop .inv .2 .long)
     returns-4)

@@ -5,9 +5,6 @@ use borrow.Author.Needs.{needs}
 use Rattle.sheet_records.proofs.record_ok.Statement.{statement}
 use Rattle.sheet_records.proofs.record_ok.Tie as tie
 
-letter-ok-requires : tie.Need-letter-ok-requires
-letter-ok-requires c κs = omega (arith, rw (c .match .keys1) at (c .before .before .pre .2))
-
 row-ok-requires : tie.Need-row-ok-requires
 row-ok-requires c κs = omega (arith, rw (c .before .before .match .keys3) at (c .before .before .before .before .pre .2))
 
@@ -45,7 +42,7 @@ pub record-ok-spec : {M : Type 1} → statement M
 record-ok-spec =
     tie.close
     (tie.spec
-    letter-ok-requires
+    (λ c κs. omega (arith, rw (c .match .keys1) at (c .before .before .pre .2)))
     (λ c κs. search needs)
     (λ c κs. search needs)
     row-ok-requires

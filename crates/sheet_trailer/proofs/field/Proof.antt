@@ -13,15 +13,9 @@ within : (c : tie.After-base) → c .base .result + 2 * c .before .before .args 
 unfolding base
 within c = omega (arith, c .base .ensures)
 
-add-u16-at : tie.Need-add-u16-at
-add-u16-at c = omega (arith, within c)
-
-u16-at-requires : tie.Need-u16-at-requires
-u16-at-requires c κs = omega (arith, within c)
-
 returns : tie.Need-returns
 unfolding field
 returns c = (rw (← c .before .base .ensures) (c .u16-at .ensures .0), c .u16-at .ensures .1)
 
 pub field-spec : {M : Type 1} → statement M
-field-spec = tie.close (tie.spec (λ c κs. search needs) (λ c. search needs) add-u16-at u16-at-requires returns)
+field-spec = tie.close (tie.spec (λ c κs. search needs) (λ c. search needs) (λ c. omega (arith, within c)) (λ c κs. omega (arith, within c)) returns)

@@ -6,8 +6,6 @@ use borrow.Author.Needs.{needs}
 use Rattle.solver.proofs.Putting.{Put, put-start, put-more, put-long, put-end}
 use Rattle.solver.proofs.put_word.Statement.{statement}
 use Rattle.solver.proofs.put_word.Tie as tie
-use Rattle.solver.proofs.put_word.Reads as reads
-use Rattle.solver.proofs.put_word.Lts as lts
 
 abbrev Inv-loop : tie.InvT-loop
 Inv-loop out₀ p len i₀ out i = Put (p .bytes) out₀ out i × (i ≤ len)
@@ -18,20 +16,8 @@ abbrev μ-loop : tie.MeasureT-loop
 long : (c : tie.Start Inv-loop μ-loop) → length (c .args .t1 .bytes) ≡ 60
 long c = search needs
 
-loop-holds : tie.Need-loop-holds Inv-loop μ-loop
-loop-holds c = (put-start _ _, omega arith)
-
-element-copy-out-out : tie.Need-element-copy-out-out Inv-loop μ-loop
-element-copy-out-out c = omega (arith, c .before .before .pre .0)
-
 slice-write-out : tie.Need-slice-write-out Inv-loop μ-loop
 slice-write-out c = omega (arith, put-long _ _ _ _ (c .before .before .loop .inv .0) (omega (arith, c .before .before .before .pre .0, long (c .before .before .before))) (omega (arith, c .before .before .before .pre .1)), c .before .before .before .pre .1)
-
-add-i : tie.Need-add-i Inv-loop μ-loop
-add-i c = omega arith
-
-loop-less : tie.Need-loop-less Inv-loop μ-loop
-loop-less c = omega arith
 
 loop-again : tie.Need-loop-again Inv-loop μ-loop
 loop-again c = (put-more _ _ _ _ (c .before .before .loop .inv .0) (omega (arith, c .before .before .before .pre .0, long (c .before .before .before))) (omega (arith, c .before .before .before .pre .1)), omega arith)
@@ -48,11 +34,11 @@ put-word-spec =
     (tie.spec
     Inv-loop
     μ-loop
-    loop-holds
-    element-copy-out-out
+    (λ c. (put-start _ _, omega arith))
+    (λ c. omega (arith, c .before .before .pre .0))
     slice-write-out
-    add-i
-    loop-less
+    (λ c. omega arith)
+    (λ c. omega arith)
     loop-again
     same-length
     returns)

@@ -15,9 +15,6 @@ Inv-loop counts₀ len at i₀ counts i = (i ≤ 8) × (at ≡ 8 * len) × (len 
 abbrev μ-loop : tie.MeasureT-loop
 μ-loop counts₀ len at i₀ counts i = 8 - i
 
-loop-holds : tie.Need-loop-holds Inv-loop μ-loop
-loop-holds c = (omega arith, refl, omega arith, omega arith, refl, sym (wiped-none _ _))
-
 loop-again : tie.Need-loop-again Inv-loop μ-loop
 loop-again c =
     let a = c .before .loop in
@@ -36,7 +33,7 @@ fresh-spec =
     Inv-loop
     μ-loop
     (λ c. omega arith)
-    loop-holds
+    (λ c. (omega arith, refl, omega arith, omega arith, refl, sym (wiped-none _ _)))
     (λ c. omega arith)
     (λ c. omega arith)
     (λ c. omega arith)

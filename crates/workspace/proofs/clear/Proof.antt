@@ -15,9 +15,6 @@ Inv-loop ws₀ i₀ ws i = (i ≤ 7564) × (ws ≡ zeroed i ws₀) × (length ws
 abbrev μ-loop : tie.MeasureT-loop
 μ-loop ws₀ i₀ ws i = 7564 - i
 
-loop-holds : tie.Need-loop-holds Inv-loop μ-loop
-loop-holds c = (search needs, zeroed-none (c .args .ws .now), search needs)
-
 loop-again : tie.Need-loop-again Inv-loop μ-loop
 loop-again c =
     let i = c .before .loop .i in
@@ -30,4 +27,4 @@ unfolding words
 returns c = c .before .loop .inv .1 ∙ ap (λ n. zeroed n (c .before .before .args .ws .now)) (omega arith)
 
 pub clear-spec : {M : Type 1} → statement M
-clear-spec = tie.close (tie.spec Inv-loop μ-loop loop-holds (λ c. omega arith) (λ c. omega arith) (λ c. search needs) (λ c. search needs) loop-again (λ c. search needs) returns)
+clear-spec = tie.close (tie.spec Inv-loop μ-loop (λ c. (search needs, zeroed-none (c .args .ws .now), search needs)) (λ c. omega arith) (λ c. omega arith) (λ c. search needs) (λ c. search needs) loop-again (λ c. search needs) returns)

@@ -18,9 +18,6 @@ Inv-loop s rows x work₀ sp q₀ work q = (q ≤ rows .count) × Adds sp (among
 abbrev μ-loop : tie.MeasureT-loop
 μ-loop s rows x work₀ sp q₀ work q = rows .count - q
 
-loop-holds : tie.Need-loop-holds Inv-loop μ-loop
-loop-holds c = (omega arith, adds-none _ _ _ (among-none _ _))
-
 put-requires : tie.Need-put-requires Inv-loop μ-loop
 put-requires c κs =
     let p = c .before .before .before .before .before .before .before .before .pre in
@@ -45,7 +42,7 @@ ranges-spec =
     (tie.spec
     Inv-loop
     μ-loop
-    loop-holds
+    (λ c. (omega arith, adds-none _ _ _ (among-none _ _)))
     (λ c κs. (c .before .before .before .before .before .pre .0, c .before .before .before .before .before .pre .1, omega arith))
     (λ c κs. search needs)
     put-requires

@@ -7,9 +7,6 @@ use native.Mathlib.Omega.{arith}
 use Rattle.chart.proofs.singles.singles.Statement.{statement}
 use Rattle.chart.proofs.singles.singles.Tie as tie
 
-returns : tie.Need-returns
-returns c = adds-none _ _ _ (λ r. long-range _ _ _ _ r (c .if1 .taken))
-
 returns-2 : tie.Need-returns-2
 returns-2 c =
     let p = c .before .before .before .before .before .before .before .before .before .before .before .pre in
@@ -26,7 +23,7 @@ pub singles-spec : {M : Type 1} → statement M
 singles-spec =
     tie.close
     (tie.spec
-    returns
+    (λ c. adds-none _ _ _ (λ r. long-range _ _ _ _ r (c .if1 .taken)))
     (λ c. search needs)
     (λ c. search needs)
     (λ c. omega (arith, c .shared-slice-known4 .given (c .before .before .before .before .before .before .args .i)))

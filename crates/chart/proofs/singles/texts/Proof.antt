@@ -30,9 +30,6 @@ returns c =
     let none = sym (c .before .has-length .ensures) ∙ not-true (c .before .has-length .result) (c .if1 .taken) in
     adds-none _ _ _ (texts-none _ _ (c .before .before .before .before .before .before .args .places .now) (p .0 .lent .ground) _ _ _ (omega (arith, p .1, p .0 .short)) none)
 
-loop-holds : tie.Need-loop-holds Inv-loop μ-loop
-loop-holds c = (omega arith, adds-none _ _ _ (among-none _ _))
-
 text-fits-requires : tie.Need-text-fits-requires Inv-loop μ-loop
 text-fits-requires c κs =
     let p = c .before .before .before .before .before .before .before .before .before .before .pre in
@@ -64,7 +61,7 @@ texts-spec =
     has-length-requires
     returns
     (λ c κs. c .before .before .before .before .before .before .pre .0 .lent .good)
-    loop-holds
+    (λ c. (omega arith, adds-none _ _ _ (among-none _ _)))
     text-fits-requires
     put-requires
     (λ c. omega arith)

@@ -3,8 +3,5 @@ use borrow.Author.Needs.{needs}
 use Rattle.gate.proofs.marks.answered.Statement.{statement}
 use Rattle.gate.proofs.marks.answered.Tie as tie
 
-returns : tie.Need-returns
-returns c = (search needs, search needs)
-
 pub answered-spec : {M : Type 1} → statement M
-answered-spec = tie.close (tie.spec (λ c κs. search needs) (λ c. search needs) returns)
+answered-spec = tie.close (tie.spec (λ c κs. search needs) (λ c. search needs) (λ c. (search needs, search needs)))

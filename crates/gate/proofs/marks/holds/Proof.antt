@@ -47,9 +47,6 @@ unfolding inTable
 returns-5 c =
     rw (c .before .before .before .before .before .x3 .given .1, holds-split, ← c .before .before .before .span .ensures .0, ← c .before .test .ensures, c .if2 .left)
 
-returns-6 : tie.Need-returns-6
-returns-6 c = rw (c .enum-told .given .1, holds-nil)
-
 pub holds-spec : {M : Type 1} → statement M
 holds-spec =
     tie.close
@@ -76,4 +73,4 @@ holds-spec =
     returns-3
     returns-4
     returns-5
-    returns-6)
+    (λ c. rw (c .enum-told .given .1, holds-nil)))

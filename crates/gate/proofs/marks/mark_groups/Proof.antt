@@ -20,9 +20,6 @@ abbrev μ-loop : tie.MeasureT-loop
 μ-loop list text word work₀ rows at₀ m₀ work at m =
     length word + 1 - m
 
-loop-holds : tie.Need-loop-holds Inv-loop μ-loop
-loop-holds c = (omega arith, group-none _, sym (turn-none _ _), refl)
-
 mark-group-requires : tie.Need-mark-group-requires Inv-loop μ-loop
 mark-group-requires c κs =
     (record { formed = c .before .before .before .before .before .before .before .pre .0 .formed; fit = c .before .before .before .before .before .before .before .pre .0 .fit; room = omega (arith, c .before .before .loop .inv .3, c .before .before .before .before .before .before .before .pre .0 .room) }, c .before .before .before .before .before .before .before .pre .1, omega (arith, c .before .before .before .before .before .before .before .pre .0 .fit), c .before .before .loop .inv .1 ∙ begins _ _ (c .before .before .before .before .before .before .before .pre .0 .formed) _ (omega (arith, c .before .before .before .before .before .before .before .pre .0 .fit)))
@@ -46,7 +43,7 @@ mark-groups-spec =
     (tie.spec
     Inv-loop
     μ-loop
-    loop-holds
+    (λ c. (omega arith, group-none _, sym (turn-none _ _), refl))
     mark-group-requires
     (λ c. omega arith)
     (λ c. omega arith)

@@ -25,9 +25,6 @@ abbrev μ-loop : tie.MeasureT-loop
 inside : (p : tie.Start Inv-loop μ-loop) → headEnd (p .args .list .now) (p .args .o) ≤ length (p .args .list .now)
 inside p = head-inside _ _ (p .pre .0 .formed) _ _ _ (p .pre .1) (p .pre .2) (p .pre .3)
 
-loop-holds : tie.Need-loop-holds Inv-loop μ-loop
-loop-holds c = (omega arith, sym (turn-none _ _), refl)
-
 mul-option-at : tie.Need-mul-option-at Inv-loop μ-loop
 mul-option-at c = omega (arith, inside (c .before .before .before .before .before .before .before), c .before .before .u32-at .ensures .0)
 
@@ -71,7 +68,7 @@ mark-head-spec =
     μ-loop
     (λ c. omega (arith, inside (c .before .before .before .before)))
     (λ c κs. omega (arith, inside (c .before .before .before .before)))
-    loop-holds
+    (λ c. (omega arith, sym (turn-none _ _), refl))
     (λ c. omega (arith, inside (c .before .before .before .before .before .before .before)))
     mul-option-at
     add-option-at-2

@@ -18,9 +18,6 @@ abbrev μ-loop : tie.MeasureT-loop
 μ-loop text word work₀ x m r i₀ work i =
     length word + 1 - m - i
 
-loop-holds : tie.Need-loop-holds Inv-loop μ-loop
-loop-holds c = (omega arith, sym (turn-none _ _), refl)
-
 loop-again : tie.Need-loop-again Inv-loop μ-loop
 loop-again c =
     let a = c .before .before .before .before .before .before .before .before .before .args in
@@ -40,7 +37,7 @@ mark-option-spec =
     (tie.spec
     Inv-loop
     μ-loop
-    loop-holds
+    (λ c. (omega arith, sym (turn-none _ _), refl))
     (λ c. omega arith)
     (λ c κs. search needs)
     (λ c. omega arith)

@@ -16,17 +16,11 @@ abbrev μ-loop : tie.MeasureT-loop
 μ-loop part word i j₀ j =
     length part - j
 
-loop-holds : tie.Need-loop-holds Inv-loop μ-loop
-loop-holds c = (omega arith, λ p h. absurd (omega arith))
-
 returns : tie.Need-returns Inv-loop μ-loop
 returns c = sym (stands-no _ _ _ (c .before .before .before .before .loop .j) (omega arith) (c .if1 .taken))
 
 loop-again : tie.Need-loop-again Inv-loop μ-loop
 loop-again c = (omega arith, below-more _ _ (c .before .before .before .before .loop .inv .1) (c .if1 .left))
-
-returns-2 : tie.Need-returns-2 Inv-loop μ-loop
-returns-2 c = sym (stands-yes _ _ _ (λ p h. c .before .loop .inv .1 p (omega arith)))
 
 pub stands-spec : {M : Type 1} → statement M
 stands-spec =
@@ -34,7 +28,7 @@ stands-spec =
     (tie.spec
     Inv-loop
     μ-loop
-    loop-holds
+    (λ c. (omega arith, λ p h. absurd (omega arith)))
     (λ c. omega arith)
     (λ c. omega arith)
     (λ c. omega arith)
@@ -42,4 +36,4 @@ stands-spec =
     (λ c. omega arith)
     (λ c. omega arith)
     loop-again
-    returns-2)
+    (λ c. sym (stands-yes _ _ _ (λ p h. c .before .loop .inv .1 p (omega arith)))))

@@ -3,9 +3,6 @@ use borrow.Author.Needs.{needs}
 use Rattle.list.proofs.fields.counts_ok.Statement.{statement}
 use Rattle.list.proofs.fields.counts_ok.Tie as tie
 
-returns : tie.Need-returns
-returns c = rw (← c .before .wide .ensures .0, lt-leb _ _ (c .if1 .taken))
-
 returns-2 : tie.Need-returns-2
 returns-2 c = rw (← c .before .before .wide .ensures .0, le-leb _ _ (c .before .if1 .left), lt-leb _ _ (c .if2 .taken))
 
@@ -28,7 +25,7 @@ counts-ok-spec =
     (λ c. search needs)
     (λ c. search needs)
     (λ c κs. search needs)
-    returns
+    (λ c. rw (← c .before .wide .ensures .0, lt-leb _ _ (c .if1 .taken)))
     (λ c. search needs)
     (λ c. search needs)
     returns-2

@@ -5,12 +5,6 @@ use Rattle.paper.specs.Records.{assertFields}
 use Rattle.sheet_records.proofs.rules.assert_fields.Statement.{statement}
 use Rattle.sheet_records.proofs.rules.assert_fields.Tie as tie
 
-add-result : tie.Need-add-result
-add-result c = search needs
-
-add-result-2 : tie.Need-add-result-2
-add-result-2 c = search needs
-
 returns : tie.Need-returns
 unfolding assertFields
 returns c = rw (c .before .match .keys1, lt-ltb _ _ (c .if1 .taken))
@@ -38,4 +32,4 @@ returns-6 c = simp
 
 pub assert-fields-spec : {M : Type 1} → statement M
 assert-fields-spec =
-    tie.close (tie.spec add-result add-result-2 returns returns-2 returns-3 returns-4 returns-5 returns-6)
+    tie.close (tie.spec (λ c. search needs) (λ c. search needs) returns returns-2 returns-3 returns-4 returns-5 returns-6)

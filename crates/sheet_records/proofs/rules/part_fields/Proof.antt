@@ -5,9 +5,6 @@ use Rattle.paper.specs.Records.{partFields}
 use Rattle.sheet_records.proofs.rules.part_fields.Statement.{statement}
 use Rattle.sheet_records.proofs.rules.part_fields.Tie as tie
 
-add-result : tie.Need-add-result
-add-result c = search needs
-
 returns : tie.Need-returns
 unfolding partFields
 returns c = rw (c .match .keys1)
@@ -35,4 +32,4 @@ returns-6 c = simp
 
 pub part-fields-spec : {M : Type 1} → statement M
 part-fields-spec =
-    tie.close (tie.spec add-result returns returns-2 returns-3 returns-4 returns-5 returns-6)
+    tie.close (tie.spec (λ c. search needs) returns returns-2 returns-3 returns-4 returns-5 returns-6)

@@ -8,9 +8,6 @@ use Rattle.sheet_records.proofs.RowKinds.{row-pair, row-none}
 use Rattle.sheet_records.proofs.rules.row_fields.Statement.{statement}
 use Rattle.sheet_records.proofs.rules.row_fields.Tie as tie
 
-add-result : tie.Need-add-result
-add-result c = search needs
-
 returns : tie.Need-returns
 unfolding rowFields
 returns c = rw (c .before .match .keys1, c .if1 .taken)
@@ -67,7 +64,7 @@ pub row-fields-spec : {M : Type 1} → statement M
 row-fields-spec =
     tie.close
     (tie.spec
-    add-result
+    (λ c. search needs)
     returns
     returns-2
     returns-3

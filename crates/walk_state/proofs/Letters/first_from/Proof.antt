@@ -15,9 +15,6 @@ Inv-loop self c at₀ at = (c ≤ at) × (at ≤ 256) × ((x : ℕ) → x < at �
 abbrev μ-loop : tie.MeasureT-loop
 μ-loop self c at₀ at = 256 - at
 
-loop-holds : tie.Need-loop-holds Inv-loop μ-loop
-loop-holds c = (omega arith, omega arith, λ x l m. absurd (omega arith))
-
 returns : tie.Need-returns Inv-loop μ-loop
 returns c =
     let a = c .before .before .before .loop in
@@ -39,7 +36,7 @@ first-from-spec =
     (tie.spec
     Inv-loop
     μ-loop
-    loop-holds
+    (λ c. (omega arith, omega arith, λ x l m. absurd (omega arith)))
     (λ c. omega arith)
     (λ c κs. tt)
     returns

@@ -3,11 +3,5 @@ use borrow.Author.Needs.{needs}
 use Rattle.walk_state.proofs.State.start.Statement.{statement}
 use Rattle.walk_state.proofs.State.start.Tie as tie
 
-empty-requires : tie.Need-empty-requires
-empty-requires c κs = search needs
-
-returns : tie.Need-returns
-returns c = cc
-
 pub start-spec : {M : Type 1} → statement M
-start-spec = tie.close (tie.spec empty-requires returns)
+start-spec = tie.close (tie.spec (λ c κs. search needs) (λ c. cc))
