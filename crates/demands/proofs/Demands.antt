@@ -1,10 +1,11 @@
 -- The three demands, as theorems about what `solve`, `make` and `gate` promise, each call's C form too: the promise is one.
 -- Assumes nothing.
 use Prim.Native.Nat.{ℕ, _≤_, _<_}
-use mathlib.Core.Path.{_≡_, sym, ap, _∙_}
-use mathlib.Core.Bool.{true}
+use mathlib.Core.Path.{_≡_, refl, sym, ap, _∙_}
+use mathlib.Core.Bool.{Bool, true, false}
 use mathlib.Core.List.{List}
 use native.Mathlib.Omega.{arith}
+use lib.Dec.{eqb}
 use lib.ListN.{length, take}
 use borrow.Author.Tests.{ne-eqb, lt-leb}
 use Rattle.paper.specs.Bytes.{OfBytes}
@@ -97,7 +98,7 @@ demand-2 sheet budget work out r work′ out′ p bytes a b c =
 
 -- "budget 0 is always spent on an accepted sheet"
 pub budget-0-spent : (sheet work out : List ℕ) (r : Report) (work′ out′ : List ℕ) → Solves reportOf sheet 0 work out r work′ out′
-    → Accepted sheet → words ≤ length work → longest sheet ≤ length out → r ≡ record { number = 2; length = 0; trials = 0 }
+    → Accepted sheet → words ≤ length work → longest sheet ≤ length out → r ≡ record { number = 2; table = 0; «record» = 0; length = 0; trials = 0 }
 unfolding words
 budget-0-spent sheet work out r work′ out′ p a b c =
     p .said ∙ ap reportOf (says-answer sheet 0 work out a b c ∙ under-above 0 _ (some-trial sheet a))

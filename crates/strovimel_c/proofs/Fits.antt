@@ -9,7 +9,7 @@ use borrow.Author.Tests.{ne-eqb}
 use lib.Dec.{eqb}
 use lib.ListN.{length}
 use Rattle.paper.specs.Trailer.{longest, countOf}
-use Rattle.paper.specs.Refusals.{latest, refusal}
+use Rattle.paper.specs.Refusals.{Fault, plain, latest, refusal}
 use Rattle.paper.specs.Sheet.{sheetOf, grammarOf}
 use Rattle.paper.specs.Cuts.{cutList}
 use Rattle.paper.specs.Answers.{Said, Found, None, Spent, Refused, reportOf, whether, under, walkOf, solverRefusal, solverSays, makerRefusal, makerSays}
@@ -38,10 +38,10 @@ word-short s budget (Refused n) m = absurd m
 pub word-fits : (s : List ℕ) (budget : ℕ) (work out : List ℕ) → reportOf (says s budget work out) .length < 4294967296
 unfolding solverSays
 word-fits s budget work out =
-    lt-or-le 0 (refusal latest s) (λ h. rw (says-sheet s budget work out (refusal latest s) refl (λ z. omega arith)) (omega arith))
-    (λ h. either (eqb (solverRefusal s (length work) (length out)) 0) (omega (arith, h)))
+    lt-or-le 0 (refusal latest s .number) (λ h. rw (says-sheet s budget work out (λ z. omega arith)) (omega arith))
+    (λ h. either (eqb (solverRefusal s (length work) (length out) .number) 0) (omega (arith, h)))
   where
-    either : (b : Bool) → refusal latest s ≡ 0 → reportOf (whether b (under budget (walkOf (sheetOf s))) (Refused (solverRefusal s (length work) (length out)))) .length < 4294967296
+    either : (b : Bool) → refusal latest s .number ≡ 0 → reportOf (whether b (under budget (walkOf (sheetOf s))) (Refused (solverRefusal s (length work) (length out)))) .length < 4294967296
     either true e = omega (arith, word-short s budget (under budget (walkOf (sheetOf s))) (answer-means (sheetOf s) budget), good latest s (omega arith) e .short)
     either false e = omega arith
 
@@ -49,13 +49,13 @@ word-fits s budget work out =
 
 module _ (s : List ℕ) (row n space : ℕ) where
   -- a refusal reports no length
-  refused-fits : (k : ℕ) → makerRefusal s row n space ≡ k → 0 < k → makerSays s row n space .length < 4294967296
+  refused-fits : (f : Fault) → makerRefusal s row n space ≡ f → 0 < f .number → makerSays s row n space .length < 4294967296
   unfolding makerSays
-  refused-fits k e h = rw (e, ne-eqb k 0 (λ z. omega arith)) (omega arith)
+  refused-fits f e h = rw (e, ne-eqb (f .number) 0 (λ z. omega arith)) (omega arith)
 
-  written-fits : refusal latest s ≡ 0 → row < countOf s 2 → n ≤ 60 → makerSays s row n space .length < 4294967296
+  written-fits : refusal latest s .number ≡ 0 → row < countOf s 2 → n ≤ 60 → makerSays s row n space .length < 4294967296
   unfolding makerSays
-  written-fits a b c = go (eqb (makerRefusal s row n space) 0)
+  written-fits a b c = go (eqb (makerRefusal s row n space .number) 0)
     where
       go : (t : Bool) → cond t (length (cutList (grammarOf s) row n)) 0 < 4294967296
       go true = list-most (grammarOf s) (good-sound s (good latest s (omega arith) a) (omega arith)) row n c
@@ -63,9 +63,9 @@ module _ (s : List ℕ) (row n space : ℕ) where
 
   pub list-fits : makerSays s row n space .length < 4294967296
   list-fits =
-      lt-or-le 0 (refusal latest s) (λ h. refused-fits (refusal latest s) (refused-sheet s row n space (λ z. omega arith)) h)
+      lt-or-le 0 (refusal latest s .number) (λ h. refused-fits (refusal latest s) (refused-sheet s row n space (λ z. omega arith)) h)
       (λ h.
-      let a : refusal latest s ≡ 0 = omega arith in
+      let a : refusal latest s .number ≡ 0 = omega arith in
       lt-or-le row (countOf s 2)
-      (λ b. lt-or-le 60 n (λ l. refused-fits 21 (refused-length s row n space a b l) (omega arith)) (λ l. written-fits a b l))
-      (λ b. refused-fits 20 (refused-row s row n space a b) (omega arith)))
+      (λ b. lt-or-le 60 n (λ l. refused-fits (plain 21) (refused-length s row n space a b l) (omega arith)) (λ l. written-fits a b l))
+      (λ b. refused-fits (plain 20) (refused-row s row n space a b) (omega arith)))

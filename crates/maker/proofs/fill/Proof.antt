@@ -1,6 +1,7 @@
 use Prim.Native.Nat.{_≤_}
 use mathlib.Core.Path.{sym, _∙_}
 use native.Mathlib.Omega.{arith}
+use Rattle.paper.specs.Refusals.{plain}
 use lib.ListN.{length}
 use Rattle.paper.specs.Sheet.{grammarOf}
 use Rattle.paper.specs.Cuts.{cutList}
@@ -17,11 +18,10 @@ returns : tie.Need-returns
 returns c =
     let a = c .before .before .before .before .before .before .before .before .before .before .before .before .args in
     let p = c .before .before .before .before .before .before .before .before .before .before .before .before .pre in
-    let number = c .by-number .ensures in
     let long = list-length (grammarOf (a .s .now)) (a .root) (a .j .n) in
-    answer-refused (a .s .now) (a .root) (a .j .n) (a .list .now) (c .by-number .result)
-    (refused-space (a .s .now) (a .root) (a .j .n) _ (p .0) (omega (arith, p .1 .rows .table .counts)) (p .1 .short) (omega (arith, long, c .before .before .before .before .measure .ensures .0)) ∙ sym number)
-    (λ e. omega arith)
+    answer-refused (a .s .now) (a .root) (a .j .n) (a .list .now) (plain 22) (c .by-number .result)
+    (refused-space (a .s .now) (a .root) (a .j .n) _ (p .0) (omega (arith, p .1 .rows .table .counts)) (p .1 .short) (omega (arith, long, c .before .before .before .before .measure .ensures .0)))
+    (c .by-number .ensures) (λ e. omega arith)
 
 returns-2 : tie.Need-returns-2
 returns-2 c =

@@ -1,7 +1,5 @@
-use mathlib.Core.Path.{ap, sym, _∙_}
 use native.Mathlib.Omega.{arith}
-use Rattle.paper.specs.Refusals.{latest}
-use Rattle.paper.specs.Answers.{Refused}
+use Rattle.paper.specs.Refusals.{plain, latest}
 use Rattle.sheet.proofs.Good.{good}
 use Rattle.solver.proofs.Solving.{refusing, answering, says-18, says-19, says-answer}
 use borrow.Author.Needs.{needs}
@@ -11,12 +9,12 @@ use Rattle.solver.proofs.lent.Tie as tie
 returns : tie.Need-returns
 returns c =
     let a = c .before .before .before .before .before .args in
-    refusing (a .s .now) (a .budget) (a .work .now) (a .out .now) (c .by-number .result) (says-18 (a .s .now) (a .budget) (a .work .now) (a .out .now) (c .before .before .before .before .before .pre) (c .before .if1 .taken) ∙ ap Refused (sym (c .by-number .ensures)))
+    refusing (a .s .now) (a .budget) (a .work .now) (a .out .now) (plain 18) (c .by-number .result) (says-18 (a .s .now) (a .budget) (a .work .now) (a .out .now) (c .before .before .before .before .before .pre) (c .before .if1 .taken)) (c .by-number .ensures)
 
 returns-2 : tie.Need-returns-2
 returns-2 c =
     let a = c .before .before .before .before .before .before .before .args in
-    refusing (a .s .now) (a .budget) (a .work .now) (a .out .now) (c .by-number2 .result) (says-19 (a .s .now) (a .budget) (a .work .now) (a .out .now) (c .before .before .before .before .before .before .before .pre) (c .before .before .before .if1 .left) (omega (arith, c .before .if2 .taken, c .before .before .longest .ensures .0)) ∙ ap Refused (sym (c .by-number2 .ensures)))
+    refusing (a .s .now) (a .budget) (a .work .now) (a .out .now) (plain 19) (c .by-number2 .result) (says-19 (a .s .now) (a .budget) (a .work .now) (a .out .now) (c .before .before .before .before .before .before .before .pre) (c .before .before .before .if1 .left) (omega (arith, c .before .if2 .taken, c .before .before .longest .ensures .0))) (c .by-number2 .ensures)
 
 answer-requires : tie.Need-answer-requires
 answer-requires c κs = (good latest _ (omega arith) (c .before .before .before .before .before .before .before .before .pre), omega (arith, c .before .before .before .before .if1 .left), omega (arith, c .before .before .if2 .left, c .before .before .before .longest .ensures .0))
