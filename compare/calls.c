@@ -260,9 +260,11 @@ static void call(uint64_t which)
         solved = strovimel_solve(b[0].start, b[0].length, numbers[0], (uint64_t *)(void *)b[1].start, b[1].length / 8,
                                  b[2].start, b[2].length);
         answer[0] = solved.number;
-        answer[1] = solved.length;
-        answer[2] = solved.trials;
-        answer_count = 3;
+        answer[1] = solved.table;
+        answer[2] = solved.record;
+        answer[3] = solved.length;
+        answer[4] = solved.trials;
+        answer_count = 5;
         break;
     }
     case MAKE: {
@@ -270,8 +272,10 @@ static void call(uint64_t which)
         expect(2, 2);
         made = strovimel_make(b[0].start, b[0].length, numbers[0], numbers[1], b[1].start, b[1].length);
         answer[0] = made.number;
-        answer[1] = made.length;
-        answer_count = 2;
+        answer[1] = made.table;
+        answer[2] = made.record;
+        answer[3] = made.length;
+        answer_count = 4;
         break;
     }
     case GATE:

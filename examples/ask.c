@@ -70,6 +70,11 @@ static void tell(const char *path, strovimel_solved answer, const uint8_t *word)
     case STROVIMEL_SPENT:
         printf("spent %" PRIu64 "\n", answer.trials);
         break;
+    case STROVIMEL_SHEET_COUNTS:
+    case STROVIMEL_SHEET_RECORD:
+    case STROVIMEL_SHEET_TERM:
+        printf("refused %" PRIu32 " %" PRIu32 " %" PRIu32 "\n", answer.number, answer.table, answer.record);
+        break;
     default:
         printf("refused %" PRIu32 "\n", answer.number);
     }

@@ -29,6 +29,13 @@ extern "C" {
 #define STROVIMEL_SHEET_MIN 32    /* the fewest bytes of a sheet: its trailer */
 #define STROVIMEL_SHEET_MAX 3376  /* the most bytes of a sheet */
 
+/* A sheet's tables, as a refusal names them. The records of each are counted from 0. */
+#define STROVIMEL_TABLE_LETTERS 0u
+#define STROVIMEL_TABLE_TEXT 1u
+#define STROVIMEL_TABLE_ROWS 2u
+#define STROVIMEL_TABLE_PARTS 3u
+#define STROVIMEL_TABLE_ASSERTIONS 4u
+
 /* Answers of the solver, the maker and the gate. */
 #define STROVIMEL_FOUND 0u   /* solver: a key was found */
 #define STROVIMEL_NONE 1u    /* solver: no key satisfies the sheet */
@@ -37,54 +44,69 @@ extern "C" {
 #define STROVIMEL_YES 0u     /* gate: the list accepts the word */
 #define STROVIMEL_NO 1u      /* gate: it does not */
 
-/* Refusals: the first that holds, in the order of each call. A refused call changes nothing. */
-#define STROVIMEL_SHEET_SHORT 10u   /* sheet under 32 bytes */
-#define STROVIMEL_SHEET_LONG 11u    /* sheet over 3,376 bytes */
-#define STROVIMEL_SHEET_MARK 12u    /* its last four bytes are not PRM1 */
-#define STROVIMEL_SHEET_TOTAL 13u   /* its stored total differs from the length lent */
-#define STROVIMEL_SHEET_COUNTS 14u  /* a count outside its limits, or a bad pair of lengths */
-#define STROVIMEL_SHEET_OFFSETS 15u /* an offset is wrong, or the tables do not end at the trailer */
-#define STROVIMEL_SHEET_RECORD 16u  /* a record breaks its rule */
-#define STROVIMEL_SHEET_TERM 17u    /* a term of an assertion is longer than 60 bytes */
-#define STROVIMEL_WORKSPACE 18u     /* workspace under 7,564 words */
-#define STROVIMEL_OUTPUT 19u        /* output shorter than the sheet's longest length */
-#define STROVIMEL_ROW 20u           /* row number not in the sheet */
-#define STROVIMEL_LENGTH 21u        /* list length above 60 */
-#define STROVIMEL_SPACE 22u         /* the list is longer than the space lent */
-#define STROVIMEL_LIST 30u          /* cut list not well formed */
-#define STROVIMEL_WORD 31u          /* the word's length is not the list's n */
+/*
+ * Refusals: the first that holds, in the order that each call gives. 141 stands behind 14 and is one of "10 to 17", the
+ * faults of a sheet, which is to be mended where it was written. A refused call changes nothing.
+ */
+#define STROVIMEL_SHEET_SHORT 10u    /* the sheet is too short to be one: under 32 bytes */
+#define STROVIMEL_SHEET_LONG 11u     /* the sheet is too long: over 3,376 bytes */
+#define STROVIMEL_SHEET_MARK 12u     /* not a sheet, or a damaged one: it does not end with PRM1 */
+#define STROVIMEL_SHEET_TOTAL 13u    /* bytes were lost or added: the length it tells is not the length it has */
+#define STROVIMEL_SHEET_COUNTS 14u   /* a table has too many records, or there are no letters: see table */
+#define STROVIMEL_SHEET_LENGTHS 141u /* the shortest length is above the longest, or the longest above 60 */
+#define STROVIMEL_SHEET_OFFSETS 15u  /* the tables do not stand end to end, or do not end at the trailer */
+#define STROVIMEL_SHEET_RECORD 16u   /* a record breaks its rule, say by a bad kind or reference: see table and record */
+#define STROVIMEL_SHEET_TERM 17u     /* an assertion has a term that can grow longer than 60 bytes: see record */
+#define STROVIMEL_WORKSPACE 18u      /* the workspace is too small: under 7,564 words */
+#define STROVIMEL_OUTPUT 19u         /* the output is too small: shorter than the sheet's longest length */
+#define STROVIMEL_ROW 20u            /* the sheet has no row of that number */
+#define STROVIMEL_LENGTH 21u         /* no list is made for words of that length: above 60 */
+#define STROVIMEL_SPACE 22u          /* the list is longer than the space lent */
+#define STROVIMEL_LIST 30u           /* the cut list is not well formed: damaged, or lent with too little text */
+#define STROVIMEL_WORD 31u           /* the word has not the length that the list was made for */
 
+/*
+ * table and record say where a sheet is faulty, and are 0 in every other answer:
+ * - 14: the first table with a bad count, and record 0;
+ * - 16: the first table with a bad record, and the first such record in it;
+ * - 17: table 4, and the first assertion with too long a term.
+ */
 typedef struct {
-    uint32_t number; /* 0, 1, 2, or 10 to 19 */
+    uint32_t number; /* 0, 1, 2, or 10 to 19, or 141 */
+    uint32_t table;
+    uint32_t record;
     uint32_t length; /* of the word found, else 0 */
     uint64_t trials; /* 0 or 1: the walk's full count; 2: the budget; a refusal: 0 */
 } strovimel_solved;
 
 typedef struct {
-    uint32_t number; /* 0, or 10 to 17, 20, 21, 22 */
+    uint32_t number; /* 0, or 10 to 17, 141, 20, 21, 22 */
+    uint32_t table;
+    uint32_t record;
     uint32_t length; /* of the list written, else 0 */
 } strovimel_made;
 
 /*
- * Answers a sheet. Checks 10 to 19 in order. Else 0: the first key that satisfies the sheet, shortest, then by bytes,
- * stands at the start of out, and later bytes of out are kept; 1: no key satisfies; 2: exactly when the walk's count
- * is above the budget. After 1 and 2 out is kept; after 0, 1 and 2 the first 7,564 words of work are zero, and later
- * words are kept.
+ * Answers a sheet. Checks 10 to 19 in the order above. Else 0: the first key that satisfies the sheet, shortest, then
+ * by bytes, stands at the start of out, and later bytes of out are kept; 1: no key satisfies; 2: exactly when the
+ * walk's count is above the budget. After 1 and 2 out is kept; after 0, 1 and 2 the first 7,564 words of work are zero,
+ * and later words are kept.
  */
 strovimel_solved strovimel_solve(const uint8_t *sheet, size_t sheet_len, uint64_t budget,
                                  uint64_t *work, size_t work_len, uint8_t *out, size_t out_len);
 
 /*
- * Writes the cut list of a sheet's row for words of `length` bytes. Checks 10 to 17, then 20 to 22. Else 0: the list
- * stands at the start of the space, and later bytes of it are kept. A list is under 2^32 bytes long.
+ * Writes the cut list of a sheet's row for words of `length` bytes. Checks 10 to 17 in the order above, then 20 to
+ * 22. Else 0: the list stands at the start of the space, and later bytes of it are kept. A list is under 2^32 bytes
+ * long.
  */
 strovimel_made strovimel_make(const uint8_t *sheet, size_t sheet_len, uint64_t row, uint64_t length,
                               uint8_t *list, size_t list_len);
 
 /*
- * Whether a cut list accepts a word. Checks 30, 31, then 18. Else 0: yes; 1: no. For a list that strovimel_make wrote,
- * with the sheet's text, yes is said exactly when the row derives the word. After 0 and 1 the first 7,564 words of
- * work are zero, and later words are kept.
+ * Whether a cut list accepts a word: the number alone, as no sheet is read. Checks 30, 31, then 18. Else 0: yes; 1: no.
+ * For a list that strovimel_make wrote, with the sheet's text, yes is said exactly when the row derives the word. After
+ * 0 and 1 the first 7,564 words of work are zero, and later words are kept.
  */
 uint32_t strovimel_gate(const uint8_t *list, size_t list_len, const uint8_t *text, size_t text_len,
                         const uint8_t *word, size_t word_len, uint64_t *work, size_t work_len);

@@ -9,7 +9,7 @@ use std::time::{Duration, Instant};
 
 use crate::call::{Buffer, Call, Name};
 use crate::everyday;
-use crate::keys::keys;
+use crate::keys::{faulty, keys};
 use crate::program::{line, Calls, Second};
 use crate::proved::{message, Proved, RUN};
 use crate::second::sheet::LENGTH_LIMIT;
@@ -87,7 +87,7 @@ impl Task {
     }
 }
 
-/// A table of every sheet of the folder that is no key, then of the everyday filter's list.
+/// A table of every sheet of the folder that is neither a key nor faulty, then of the everyday filter's list.
 pub fn bench(folder: &Path) -> Result<(), String> {
     let mut tasks = sheets(folder).map_err(|error| error.to_string())?;
     tasks.extend(["make".into(), "gate".into()]);
@@ -131,11 +131,10 @@ fn proved(task: &Task) -> Result<Measure, String> {
     let numbers = &first.reply.answer;
     let (answer, things) = match call.name {
         Name::Solve => {
-            let (number, length) = (numbers[0] as u32, numbers[1] as u32);
-            let solved = Solved { number, length, trials: numbers[2] };
+            let solved = Solved::walked(numbers[0] as u32, numbers[3] as usize, numbers[4]);
             (line(&solved, &first.reply.buffers[2]), solved.trials)
         }
-        Name::Make => (format!("{} {}", numbers[0], numbers[1]), numbers[1]),
+        Name::Make => (format!("{} {}", numbers[0], numbers[3]), numbers[3]),
         _ => (numbers[0].to_string(), 1),
     };
     let seconds = timed.nanoseconds as f64 / 1e9 / times as f64;
@@ -161,13 +160,14 @@ fn second(path: &Path, mut task: Task) -> Measure {
     Measure { answer, things, seconds, instructions }
 }
 
-/// The sheets of the folder but for the keys, by name.
+/// The sheets of the folder but for the keys and the faulty ones, by name.
 fn sheets(folder: &Path) -> io::Result<Vec<PathBuf>> {
-    let is_key = |path: &Path| keys().iter().any(|key| path.file_stem() == Some(key.name.as_ref()));
+    let named: Vec<_> = keys().into_iter().chain(faulty()).map(|key| key.name).collect();
+    let is_named = |path: &Path| named.iter().any(|name| path.file_stem() == Some(name.as_ref()));
     let mut paths = Vec::new();
     for entry in fs::read_dir(folder)? {
         let path = entry?.path();
-        if path.extension().is_some_and(|extension| extension == "sheet") && !is_key(&path) {
+        if path.extension().is_some_and(|extension| extension == "sheet") && !is_named(&path) {
             paths.push(path);
         }
     }

@@ -5,6 +5,7 @@ use std::collections::VecDeque;
 
 use crate::call::{bytes, words, Buffer, Call, Name, Place, Reply};
 use crate::program::{hex, Program};
+use crate::second::fault::Fault;
 use crate::second::gate::gate;
 use crate::second::make::make;
 use crate::second::sheet::Sheet;
@@ -84,7 +85,7 @@ impl<'a> Comparison<'a> {
         let lent = [self.lent("workspace", 8 * call.work), self.lent("output", call.out)];
         let (mut work, mut out) = (words(&lent[0].bytes), lent[1].bytes.clone());
         let second = solve_by(walk, sheet, call.budget, &mut work, &mut out);
-        self.tally.answer("solve", second.number);
+        self.tally.answer("solve", second.fault());
 
         let buffers = vec![sheet.to_vec(), bytes(&work), out];
         let expected = Reply { answer: second.numbers(), buffers };
@@ -98,7 +99,7 @@ impl<'a> Comparison<'a> {
         let lent = self.lent("list", call.space);
         let mut list = lent.bytes.clone();
         let second = make(sheet, call.row, call.length, &mut list);
-        self.tally.answer("make", second.number);
+        self.tally.answer("make", second.fault());
 
         let written = (second.number == 0).then(|| list[..second.length as usize].to_vec());
         let expected = Reply { answer: second.numbers(), buffers: vec![sheet.to_vec(), list] };
@@ -113,7 +114,7 @@ impl<'a> Comparison<'a> {
         let lent = self.lent("workspace", 8 * work);
         let mut work = words(&lent.bytes);
         let second = gate(list, text, word, &mut work);
-        self.tally.answer("gate", second);
+        self.tally.answer("gate", Fault::alone(second));
 
         let buffers = vec![list.to_vec(), text.to_vec(), word.to_vec(), bytes(&work)];
         let expected = Reply { answer: vec![second.into()], buffers };

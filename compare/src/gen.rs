@@ -3,18 +3,23 @@
 pub mod alike;
 pub mod broken;
 pub mod damage;
+pub mod faults;
 pub mod filters;
 pub mod limits;
 pub mod lists;
 pub mod small;
+mod wrong;
 
 use crate::seed::Seeded;
 
 /// The sheets of one case, and the sort they are of. Sheets that are mostly refused at once come in
 /// numbers, as there are many ways to be refused.
 pub fn sheets(s: &mut Seeded) -> (&'static str, Vec<Vec<u8>>) {
-    if s.once_in(60) {
-        return ("each byte", damage::each_byte(s));
+    match s.below(100) {
+        0 => return ("each byte", damage::each_byte(s)),
+        1 => return ("each field", bytes(faults::each_field(s))),
+        2..=4 => return ("two faults", bytes(faults::two_at_once(s))),
+        _ => {}
     }
     match s.below(20) {
         0..=3 => ("small", vec![small::small(s, 2).bytes()]),
@@ -24,4 +29,8 @@ pub fn sheets(s: &mut Seeded) -> (&'static str, Vec<Vec<u8>>) {
         13..=18 => ("damaged", (0..8).map(|_| damage::damaged(s)).collect()),
         _ => ("random", (0..8).map(|_| damage::random_bytes(s)).collect()),
     }
+}
+
+fn bytes(sheets: Vec<faults::Faulty>) -> Vec<Vec<u8>> {
+    sheets.into_iter().map(|(bytes, _)| bytes).collect()
 }

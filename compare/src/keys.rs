@@ -1,11 +1,11 @@
-//! The sheets of the paper's keys.
+//! The sheets of the paper's keys, and faulty ones.
 
 use crate::draft::Draft;
 
 /// The budget of a key that names none.
 pub const BUDGET: u64 = 1_000_000;
 
-/// A key about the solver: its sheet, its budget and the line the checking program would print.
+/// A question to the solver: its sheet, its budget and the line the checking program would print.
 pub struct Key {
     pub name: &'static str,
     pub sheet: Vec<u8>,
@@ -31,6 +31,25 @@ pub fn keys() -> Vec<Key> {
         key("k9", no_letter(), BUDGET, "none 3"),
         key("k10", only_itself(), BUDGET, "none 3"),
         key("k11", digits(), BUDGET, "found 2 3 3030"),
+    ]
+}
+
+/// K4 with a fault in it.
+pub fn faulty() -> Vec<Key> {
+    let faulty = |name, change: fn(&mut Draft), line| {
+        let mut draft = brackets(4, 4);
+        change(&mut draft);
+        key(name, draft, BUDGET, line)
+    };
+    let long_term = |draft: &mut Draft| {
+        let long = draft.add_part(3, 0, 61);
+        draft.assert((3, 1), (0, 1), (long, 1));
+    };
+    vec![
+        faulty("faulty-count", |draft| draft.rows.resize(257, (1, 0, 0)), "refused 14 2 0"),
+        faulty("faulty-lengths", |draft| draft.longest = 61, "refused 141"),
+        faulty("faulty-row", |draft| draft.rows[5] = (5, 1, 7), "refused 16 2 5"),
+        faulty("faulty-term", long_term, "refused 17 4 1"),
     ]
 }
 

@@ -11,7 +11,7 @@ use compare::bench::{bench, Task};
 use compare::check::{check, check_alike, Report};
 use compare::compare::Difference;
 use compare::guards::guards;
-use compare::keys::{keys, BUDGET};
+use compare::keys::{faulty, keys, BUDGET};
 use compare::program::line;
 use compare::proved::Proved;
 use compare::second::sheet::{LENGTH_LIMIT, SHEET_LIMIT};
@@ -29,7 +29,7 @@ of the second program alone:
 compare self SEED COUNT              the second program against brute force
 compare solve                        one line for the sheet on standard input
 compare call TASK TIMES              calls it: SHEET, make or gate, as bench does
-compare write-keys FOLDER            the sheets of the keys, k1.sheet to k11.sheet";
+compare write-keys FOLDER            the sheets of the keys, k1.sheet to k11.sheet, and faulty ones";
 
 fn main() -> ExitCode {
     let arguments: Vec<String> = env::args().skip(1).collect();
@@ -114,7 +114,7 @@ fn run_calls(task: &str, times: &str) -> Result<(), String> {
 }
 
 fn write_keys(folder: &str) -> Result<(), String> {
-    for key in keys() {
+    for key in keys().into_iter().chain(faulty()) {
         let path = Path::new(folder).join(format!("{}.sheet", key.name));
         fs::write(path, key.sheet).map_err(|error| error.to_string())?;
     }

@@ -81,30 +81,30 @@ impl<C: Calls> Program for Here<C> {
 }
 
 impl Solved {
-    /// Its fields, as they come back from a call.
+    /// Its fields, in order, as they come back from a call.
     pub fn numbers(&self) -> Vec<u64> {
-        vec![self.number.into(), self.length.into(), self.trials]
+        let Solved { number, table, record, length, trials } = *self;
+        vec![number.into(), table.into(), record.into(), length.into(), trials]
     }
 }
 
 impl Made {
-    /// Its fields, as they come back from a call.
+    /// Its fields, in order, as they come back from a call.
     pub fn numbers(&self) -> Vec<u64> {
-        vec![self.number.into(), self.length.into()]
+        let Made { number, table, record, length } = *self;
+        [number, table, record, length].map(u64::from).to_vec()
     }
 }
 
 /// The checking program's line for a solver's answer.
 pub fn line(solved: &Solved, out: &[u8]) -> String {
-    match solved.number {
-        0 if solved.length == 0 => format!("found 0 {} -", solved.trials),
-        0 => {
-            let word = hex(&out[..solved.length as usize]);
-            format!("found {} {} {word}", solved.length, solved.trials)
-        }
-        1 => format!("none {}", solved.trials),
-        2 => format!("spent {}", solved.trials),
-        number => format!("refused {number}"),
+    let Solved { number, length, trials, .. } = *solved;
+    match number {
+        0 if length == 0 => format!("found 0 {trials} -"),
+        0 => format!("found {length} {trials} {}", hex(&out[..length as usize])),
+        1 => format!("none {trials}"),
+        2 => format!("spent {trials}"),
+        _ => solved.fault().to_string(),
     }
 }
 

@@ -1,6 +1,7 @@
-//! The second program: the three calls, written from the paper alone.
+//! The second program: the three calls, written from the papers alone.
 
 pub mod derive;
+pub mod fault;
 pub mod gate;
 pub mod make;
 pub mod open;

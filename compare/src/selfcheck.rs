@@ -51,7 +51,7 @@ pub fn selfcheck(seed: u64, count: u64) -> Result<Agreed, String> {
         let filters = s.once_in(2);
         let draft = if filters { filters::filters(&mut s, 3) } else { small::small(&mut s, 1) };
         let bytes = draft.bytes();
-        let sheet = Sheet::check(&bytes).map_err(|number| format!("refused {number}"));
+        let sheet = Sheet::check(&bytes).map_err(|fault| fault.to_string());
         let result = sheet.and_then(|sheet| {
             walks(&bytes, &sheet, &mut agreed)?;
             for row in 0..sheet.rows.len() {
@@ -104,10 +104,9 @@ fn budgets(bytes: &[u8], walked: &Walked) -> Result<(), String> {
         let solved = solve(bytes, budget, &mut work, &mut out);
         let word = walked.found.clone().unwrap_or_default();
         let expected = if budget < count {
-            Solved { number: 2, length: 0, trials: budget }
+            Solved::walked(2, 0, budget)
         } else {
-            let number = walked.found.is_none() as u32;
-            Solved { number, length: word.len() as u32, trials: count }
+            Solved::walked(walked.found.is_none() as u32, word.len(), count)
         };
         same("solved", &solved, &expected)?;
         same("last workspace word", &work[WORK], &7)?;
@@ -143,7 +142,7 @@ fn makes(
 ) -> Result<(), String> {
     let n = s.between(0, 3);
     let size = Plan::check(bytes, row as u64, n as u64).map(|plan| plan.size());
-    let mut list = vec![0; size.map_err(|number| format!("refused {number}"))?];
+    let mut list = vec![0; size.map_err(|fault| fault.to_string())?];
     let made = make(bytes, row as u64, n as u64, &mut list);
     same("list length", &(made.number, made.length as usize), &(0, list.len()))?;
     let parsed = CutList::check(&list, sheet.text.len()).ok_or("the maker's list is refused")?;

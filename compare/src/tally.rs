@@ -3,17 +3,33 @@
 use std::collections::BTreeMap;
 use std::fmt;
 
-/// Every number a call can answer.
-const ANSWERS: [(&str, &[u32]); 3] = [
-    ("solve", &[0, 1, 2, 10, 11, 12, 13, 14, 15, 16, 17, 18, 19]),
-    ("make", &[0, 10, 11, 12, 13, 14, 15, 16, 17, 20, 21, 22]),
-    ("gate", &[0, 1, 18, 30, 31]),
+use crate::second::fault::Fault;
+
+/// Every number a call can answer, but for those of a sheet's fault.
+const ANSWERS: [(&str, &[u32]); 3] =
+    [("solve", &[0, 1, 2, 18, 19]), ("make", &[0, 20, 21, 22]), ("gate", &[0, 1, 18, 30, 31])];
+
+/// The calls that read a sheet.
+const READERS: [&str; 2] = ["solve", "make"];
+
+/// Every number of a sheet's fault, the tables that it can name, and whether it names a record.
+const FAULTS: [(u32, &[u32], bool); 9] = [
+    (10, &[0], false),
+    (11, &[0], false),
+    (12, &[0], false),
+    (13, &[0], false),
+    (14, &[0, 1, 2, 3, 4], false),
+    (141, &[0], false),
+    (15, &[0], false),
+    (16, &[0, 2, 3, 4], true),
+    (17, &[4], true),
 ];
 
 #[derive(Default)]
 pub struct Tally {
     sorts: BTreeMap<&'static str, u64>,
-    answers: BTreeMap<(&'static str, u32), u64>,
+    /// Record 1 stands for every later one.
+    answers: BTreeMap<(&'static str, Fault), u64>,
 }
 
 impl Tally {
@@ -22,14 +38,15 @@ impl Tally {
         *self.sorts.entry(sort).or_default() += 1;
     }
 
-    /// Counts a call's answer.
-    pub fn answer(&mut self, call: &'static str, number: u32) {
-        *self.answers.entry((call, number)).or_default() += 1;
+    /// Counts a call's answer: its number, and the table and record that it names.
+    pub fn answer(&mut self, call: &'static str, answer: Fault) {
+        let answer = Fault { record: answer.record.min(1), ..answer };
+        *self.answers.entry((call, answer)).or_default() += 1;
     }
 
     /// How often the call gave the answer.
-    pub fn answered(&self, call: &'static str, number: u32) -> u64 {
-        self.answers.get(&(call, number)).copied().unwrap_or(0)
+    pub fn answered(&self, call: &'static str, answer: Fault) -> u64 {
+        self.answers.get(&(call, answer)).copied().unwrap_or(0)
     }
 
     /// How many calls were made.
@@ -38,25 +55,40 @@ impl Tally {
     }
 
     /// The answers that were never met.
-    pub fn unmet(&self) -> Vec<(&'static str, u32)> {
+    pub fn unmet(&self) -> Vec<(&'static str, Fault)> {
         let mut unmet = Vec::new();
         for (call, numbers) in ANSWERS {
-            unmet.extend(numbers.iter().map(|&number| (call, number)));
+            unmet.extend(answers(call, numbers).map(|answer| (call, answer)));
         }
-        unmet.retain(|&(call, number)| self.answered(call, number) == 0);
+        unmet.retain(|&(call, answer)| self.answered(call, answer) == 0);
         unmet
     }
 }
 
-fn meaning(call: &str, number: u32) -> String {
-    match (call, number) {
+/// Every answer of a call.
+fn answers(call: &str, numbers: &'static [u32]) -> impl Iterator<Item = Fault> {
+    let faults = READERS.contains(&call).then(sheet_faults);
+    numbers.iter().map(|&number| Fault::alone(number)).chain(faults.into_iter().flatten())
+}
+
+fn sheet_faults() -> impl Iterator<Item = Fault> {
+    FAULTS.into_iter().flat_map(|(number, tables, records)| {
+        tables.iter().flat_map(move |&table| {
+            (0..=u32::from(records)).map(move |record| Fault { number, table, record })
+        })
+    })
+}
+
+fn meaning(call: &str, answer: Fault) -> String {
+    match (call, answer.number) {
         ("solve", 0) => "found".into(),
         ("solve", 1) => "none".into(),
         ("solve", 2) => "spent".into(),
         ("make", 0) => "written".into(),
         ("gate", 0) => "yes".into(),
         ("gate", 1) => "no".into(),
-        _ => format!("refused {number}"),
+        _ if answer.record > 0 => format!("{answer} or later"),
+        _ => answer.to_string(),
     }
 }
 
@@ -68,8 +100,8 @@ impl fmt::Display for Tally {
         // A call that was made shows also what it never answered.
         let made = |call| self.answers.keys().any(|&(made, _)| made == call);
         for (call, numbers) in ANSWERS.into_iter().filter(|&(call, _)| made(call)) {
-            for &number in numbers {
-                writeln!(f, "{call} {}: {}", meaning(call, number), self.answered(call, number))?;
+            for answer in answers(call, numbers) {
+                writeln!(f, "{call} {}: {}", meaning(call, answer), self.answered(call, answer))?;
             }
         }
         Ok(())

@@ -4,6 +4,7 @@
 use compare::check::{check, check_alike};
 use compare::count::count;
 use compare::program::{Calls, Here, Second};
+use compare::second::fault::Fault;
 use compare::second::make::Made;
 use compare::second::sheet::Sheet;
 use compare::second::solve::{solve_by, Solved, Walked, WORK};
@@ -26,10 +27,16 @@ fn second_program_agrees_with_itself_and_meets_every_answer() {
 #[derive(Clone, Copy, PartialEq)]
 enum Wrong {
     Trials,
+    Table,
+    Record,
+    TableOfNone,
+    LengthsForCounts,
     OutputAfterTheWord,
     WordAfterTheWorkspace,
     WorkspaceNotCleared,
     RefusedWrites,
+    MakerTable,
+    MakerRecord,
     ListByte,
     SpaceAfterTheList,
     GateAlwaysYes,
@@ -42,6 +49,10 @@ impl Calls for Wrong {
         let after = solved.length as usize;
         match self {
             Wrong::Trials if solved.number == 1 => solved.trials += 1,
+            Wrong::Table if solved.number == 14 => solved.table += 1,
+            Wrong::Record if solved.number == 17 => solved.record += 1,
+            Wrong::TableOfNone if solved.number == 1 => solved.table = 4,
+            Wrong::LengthsForCounts if solved.number == 141 => solved.number = 14,
             Wrong::OutputAfterTheWord if solved.number == 0 && after < out.len() => out[after] = 0,
             Wrong::WordAfterTheWorkspace if work.len() > WORK => work[WORK] = 0,
             Wrong::WorkspaceNotCleared if solved.number < 10 => work[WORK - 1] = 1,
@@ -52,9 +63,11 @@ impl Calls for Wrong {
     }
 
     fn make(&self, sheet: &[u8], row: u64, length: u64, list: &mut [u8]) -> Made {
-        let made = Second.make(sheet, row, length, list);
+        let mut made = Second.make(sheet, row, length, list);
         let after = made.length as usize;
         match self {
+            Wrong::MakerTable if made.number == 16 => made.table ^= 1,
+            Wrong::MakerRecord if made.number == 16 => made.record += 1,
             Wrong::ListByte if made.number == 0 => list[after - 20] ^= 1,
             Wrong::SpaceAfterTheList if made.number == 0 && after < list.len() => list[after] = 0,
             _ => {}
@@ -79,17 +92,23 @@ impl Calls for Wrong {
 fn every_way_of_differing_is_seen() {
     let wrongs = [
         Wrong::Trials,
+        Wrong::Table,
+        Wrong::Record,
+        Wrong::TableOfNone,
+        Wrong::LengthsForCounts,
         Wrong::OutputAfterTheWord,
         Wrong::WordAfterTheWorkspace,
         Wrong::WorkspaceNotCleared,
         Wrong::RefusedWrites,
+        Wrong::MakerTable,
+        Wrong::MakerRecord,
         Wrong::ListByte,
         Wrong::SpaceAfterTheList,
         Wrong::GateAlwaysYes,
         Wrong::GateWorkspace,
     ];
     for (i, wrong) in wrongs.iter().enumerate() {
-        assert!(check(&mut Here::new(*wrong), 7, 0..60, None).is_err(), "wrong program {i}");
+        assert!(check(&mut Here::new(*wrong), 7, 0..200, None).is_err(), "wrong program {i}");
     }
 }
 
@@ -118,6 +137,7 @@ impl Calls for Counting {
 #[test]
 fn counts_past_every_plain_walk() {
     let report = check_alike(&mut Here::new(Counting(0)), 7, 0..60, None).expect("no difference");
-    assert!(report.tally.answered("solve", 0) > 20 && report.tally.answered("solve", 2) > 20);
+    let answered = |number| report.tally.answered("solve", Fault::alone(number));
+    assert!(answered(0) > 20 && answered(2) > 20);
     assert!(check_alike(&mut Here::new(Counting(1)), 7, 0..60, None).is_err());
 }

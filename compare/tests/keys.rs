@@ -1,8 +1,9 @@
 //! The paper's keys K1 to K12 and the limits listed after them.
 
 use compare::draft::Draft;
-use compare::keys::{brackets, keys, star_of_a};
+use compare::keys::{brackets, faulty, keys, star_of_a};
 use compare::program::line;
+use compare::second::fault::Fault;
 use compare::second::gate::gate;
 use compare::second::make::{make, Made};
 use compare::second::solve::{solve, WORK};
@@ -15,7 +16,7 @@ fn answer(sheet: &[u8], budget: u64) -> String {
 
 #[test]
 fn solver_keys() {
-    for key in keys() {
+    for key in keys().into_iter().chain(faulty()) {
         assert_eq!(answer(&key.sheet, key.budget), key.line, "{}", key.name);
     }
 }
@@ -43,7 +44,7 @@ fn k12() {
     ];
     let mut list = [9; 110];
     let made = make(&star_of_a().bytes(), 1, 2, &mut list);
-    assert_eq!(made, Made { number: 0, length: 108 });
+    assert_eq!(made, Made::written(108));
     assert_eq!(list[..108], expected.concat());
     assert_eq!(list[108..], [9, 9]);
     let word = |word: &[u8]| gate(&list[..108], &[], word, &mut [7; WORK]);
@@ -60,16 +61,20 @@ fn longest_length() {
         answer(&one_letter(60, 60).bytes(), 100),
         format!("found 60 61 {}", "61".repeat(60))
     );
-    assert_eq!(answer(&one_letter(60, 61).bytes(), 100), "refused 14");
+    for (shortest, longest) in [(60, 61), (61, 61), (61, 60), (1, 0), (0, 65_535)] {
+        assert_eq!(answer(&one_letter(shortest, longest).bytes(), 100), "refused 141");
+    }
 }
 
 #[test]
-fn longest_length_before_offset() {
+fn longest_length_between_count_and_offset() {
     let mut sheet = one_letter(0, 61).bytes();
-    let offset = sheet.len() - 28;
+    let [longest, offset, rows] = [30, 28, 18].map(|from_end| sheet.len() - from_end);
     sheet[offset] = 1;
-    assert_eq!(answer(&sheet, 100), "refused 14");
-    let longest = sheet.len() - 30;
+    assert_eq!(answer(&sheet, 100), "refused 141");
+    sheet[rows + 1] = 2;
+    assert_eq!(answer(&sheet, 100), "refused 14 2 0");
+    sheet[rows + 1] = 0;
     sheet[longest] = 60;
     assert_eq!(answer(&sheet, 100), "refused 15");
 }
@@ -86,19 +91,19 @@ fn longest_term() {
     };
     for second in [false, true] {
         assert_eq!(term_of(60, second), "none 1");
-        assert_eq!(term_of(61, second), "refused 17");
+        assert_eq!(term_of(61, second), "refused 17 4 0");
     }
 }
 
 #[test]
 fn workspace_and_output() {
-    let numbers = |draft: Draft, work: usize, out: usize| {
-        solve(&draft.bytes(), 100, &mut vec![7; work], &mut vec![9; out]).number
+    let answers = |draft: Draft, work: usize, out: usize| {
+        solve(&draft.bytes(), 100, &mut vec![7; work], &mut vec![9; out]).fault()
     };
-    assert_eq!(numbers(one_letter(0, 1), 7_563, 0), 18);
-    assert_eq!(numbers(one_letter(0, 1), 7_564, 0), 19);
-    assert_eq!(numbers(one_letter(0, 1), 7_564, 1), 0);
-    assert_eq!(numbers(one_letter(0, 0), 7_564, 0), 0);
+    assert_eq!(answers(one_letter(0, 1), 7_563, 0), Fault::alone(18));
+    assert_eq!(answers(one_letter(0, 1), 7_564, 0), Fault::alone(19));
+    assert_eq!(answers(one_letter(0, 1), 7_564, 1), Fault::alone(0));
+    assert_eq!(answers(one_letter(0, 0), 7_564, 0), Fault::alone(0));
 }
 
 #[test]

@@ -1,14 +1,32 @@
-//! Each refusal, each rule of a record or an option, and the order of the checks.
+//! Each refusal with the table and record that it names, each rule of a record or an option, and
+//! the order of the checks.
 
 use compare::draft::Draft;
+use compare::gen::faults::{each_field, two_at_once, Faulty};
 use compare::keys::{brackets, star_of_a};
+use compare::second::fault::Fault;
 use compare::second::gate::{gate, CutList};
 use compare::second::make::make;
-use compare::second::sheet::Sheet;
-use compare::second::solve::WORK;
+use compare::second::sheet::{Sheet, ASSERTIONS, LETTERS, PARTS, ROWS};
+use compare::second::solve::{solve, WORK};
+use compare::seed::Seeded;
 
-fn number(sheet: &[u8]) -> u32 {
-    Sheet::check(sheet).err().unwrap_or(0)
+/// Number, table and record.
+type Told = (u32, usize, usize);
+
+fn told(fault: Fault) -> Told {
+    (fault.number, fault.table as usize, fault.record as usize)
+}
+
+fn fault(sheet: &[u8]) -> Told {
+    Sheet::check(sheet).map_or_else(told, |_| ACCEPTED)
+}
+
+const ACCEPTED: Told = (0, 0, 0);
+
+/// A number that names no table and no record.
+fn alone(number: u32) -> Told {
+    (number, 0, 0)
 }
 
 /// A sheet with a record of every kind.
@@ -33,67 +51,80 @@ fn with(sheet: &[u8], at: isize, value: u16) -> Vec<u8> {
 #[test]
 fn frame() {
     let sheet = every_kind().bytes();
-    assert_eq!(number(&sheet), 0);
-    assert_eq!(number(&[]), 10);
-    assert_eq!(number(&sheet[sheet.len() - 31..]), 10);
-    assert_eq!(number(&[0; 3_377]), 11);
-    assert_eq!(number(&[0; 3_376]), 12);
-    assert_eq!(number(&with(&sheet, -2, 0)), 12);
-    assert_eq!(number(&with(&sheet, -8, 1)), 13);
-    assert_eq!(number(&with(&sheet, -6, 1)), 13);
-    assert_eq!(number(&[&[0], &sheet[..]].concat()), 13);
+    assert_eq!(fault(&sheet), ACCEPTED);
+    assert_eq!(fault(&[]), alone(10));
+    assert_eq!(fault(&sheet[sheet.len() - 31..]), alone(10));
+    assert_eq!(fault(&[0; 3_377]), alone(11));
+    assert_eq!(fault(&[0; 3_376]), alone(12));
+    assert_eq!(fault(&with(&sheet, -2, 0)), alone(12));
+    assert_eq!(fault(&with(&sheet, -8, 1)), alone(13));
+    assert_eq!(fault(&with(&sheet, -6, 1)), alone(13));
+    assert_eq!(fault(&[&[0], &sheet[..]].concat()), alone(13));
 }
 
 #[test]
 fn counts_lengths_and_offsets() {
     let sheet = every_kind().bytes();
+    let bad_pair = with(&sheet, -30, 61);
     for (table, limit) in [8, 1_024, 256, 64, 32].into_iter().enumerate() {
         let field = -28 + 4 * table as isize;
         let count = field + 2;
-        assert_eq!(number(&with(&sheet, count, limit + 1)), 14);
+        assert_eq!(fault(&with(&sheet, count, limit + 1)), (14, table, 0));
+        assert_eq!(fault(&with(&bad_pair, count, limit + 1)), (14, table, 0));
         // Within the limits the tables no longer meet.
-        assert_eq!(number(&with(&sheet, count, limit)), 15);
-        assert_eq!(number(&with(&sheet, field, 1)), 15);
-        assert_eq!(number(&with(&with(&sheet, field, 1), count, limit + 1)), 14);
+        assert_eq!(fault(&with(&sheet, count, limit)), alone(15));
+        assert_eq!(fault(&with(&bad_pair, count, limit)), alone(141));
+        assert_eq!(fault(&with(&sheet, field, 1)), alone(15));
+        assert_eq!(fault(&with(&bad_pair, field, 1)), alone(141));
+        assert_eq!(fault(&with(&with(&sheet, field, 1), count, limit + 1)), (14, table, 0));
+        assert_eq!(fault(&with(&with(&sheet, count, limit + 1), -10, 33)), (14, table, 0));
     }
-    assert_eq!(number(&with(&sheet, -26, 0)), 14);
-    assert_eq!(number(&with(&sheet, -32, 5)), 14);
-    assert_eq!(number(&with(&sheet, -30, 61)), 14);
+    assert_eq!(fault(&with(&sheet, -26, 0)), (14, LETTERS, 0));
+    assert_eq!(fault(&with(&sheet, -32, 5)), alone(141));
     let gap = [&[0], &with(&sheet, -8, sheet.len() as u16 + 1)[..]].concat();
-    assert_eq!(number(&gap), 15);
+    assert_eq!(fault(&gap), alone(15));
 }
 
 /// The refusal after one change to a sheet with a record of every kind.
-fn changed(change: impl FnOnce(&mut Draft)) -> u32 {
+fn changed(change: impl FnOnce(&mut Draft)) -> Told {
     let mut draft = every_kind();
     change(&mut draft);
-    number(&draft.bytes())
+    fault(&draft.bytes())
 }
 
 #[test]
 fn letters_and_rows() {
-    assert_eq!(changed(|draft| draft.letters[0] = (2, 1)), 16);
+    for at in [0, 1] {
+        assert_eq!(changed(|draft| draft.letters[at] = (2, 1)), (16, LETTERS, at));
+    }
+    let broken = |row| {
+        for at in [0, 4, 8] {
+            assert_eq!(changed(|draft| draft.rows[at] = row), (16, ROWS, at), "{row:?}");
+        }
+    };
     for row in [(0, 0, 0), (7, 0, 0), (1, 1, 0), (1, 0, 1), (2, 2, 1), (2, 0, 256), (2, 256, 256)] {
-        assert_eq!(changed(|draft| draft.rows[0] = row), 16, "{row:?}");
+        broken(row);
     }
     for row in [(3, 0, 5), (3, 5, 0), (3, 65_535, 65_535), (4, 9, 0), (4, 0, 9), (5, 9, 0)] {
-        assert_eq!(changed(|draft| draft.rows[0] = row), 16, "{row:?}");
+        broken(row);
     }
     for row in [(5, 0, 9), (6, 9, 0), (6, 0, 1)] {
-        assert_eq!(changed(|draft| draft.rows[0] = row), 16, "{row:?}");
+        broken(row);
     }
     for row in [(2, 0, 255), (3, 4, 0), (3, 0, 4), (4, 8, 0), (5, 0, 8), (6, 0, 0)] {
-        assert_eq!(changed(|draft| draft.rows[0] = row), 0, "{row:?}");
+        assert_eq!(changed(|draft| draft.rows[0] = row), ACCEPTED, "{row:?}");
     }
 }
 
 #[test]
 fn parts_and_assertions() {
     for part in [(0, 0, 0), (4, 0, 0), (1, 0, 5), (1, 5, 0), (2, 1, 0), (2, 0, 1)] {
-        assert_eq!(changed(|draft| draft.parts[1] = part), 16, "{part:?}");
+        for at in [0, 1, 2] {
+            assert_eq!(changed(|draft| draft.parts[at] = part), (16, PARTS, at), "{part:?}");
+        }
     }
-    assert_eq!(changed(|draft| draft.parts[1] = (3, 65_535, 0)), 0);
-    assert_eq!(changed(|draft| draft.parts[1] = (3, 0, 65_535)), 17);
+    assert_eq!(changed(|draft| draft.parts[1] = (3, 65_535, 0)), ACCEPTED);
+    assert_eq!(changed(|draft| draft.parts[1] = (3, 0, 65_535)), (17, ASSERTIONS, 1));
     type Fields = ((u8, u8), (u16, u16), (u16, u16));
     let fields: [Fields; 13] = [
         ((0, 0), (0, 0), (0, 0)),
@@ -111,10 +142,15 @@ fn parts_and_assertions() {
         ((3, 0), (65_535, 65_535), (0, 0)),
     ];
     for (kind_and_sign, term, about) in fields {
-        let refused = changed(|draft| draft.assert(kind_and_sign, term, about));
-        assert_eq!(refused, 16, "{kind_and_sign:?} {term:?} {about:?}");
+        let last = changed(|draft| draft.assert(kind_and_sign, term, about));
+        assert_eq!(last, (16, ASSERTIONS, 3), "{kind_and_sign:?} {term:?} {about:?}");
+        let first = changed(|draft| {
+            draft.assert(kind_and_sign, term, about);
+            draft.assertions.swap(0, 3);
+        });
+        assert_eq!(first, (16, ASSERTIONS, 0), "{kind_and_sign:?} {term:?} {about:?}");
     }
-    assert_eq!(changed(|draft| draft.assert((3, 1), (3, 0), (3, 0))), 0);
+    assert_eq!(changed(|draft| draft.assert((3, 1), (3, 0), (3, 0))), ACCEPTED);
 }
 
 #[test]
@@ -124,10 +160,67 @@ fn zero_fields() {
     let rows = 2 * draft.letters.len() + draft.text.len();
     let parts = rows + 6 * draft.rows.len();
     let assertions = parts + 6 * draft.parts.len();
-    for at in [rows + 1, rows + 7, parts + 1, assertions + 10, assertions + 11] {
+    for (at, table, record) in [
+        (rows + 1, ROWS, 0),
+        (rows + 7, ROWS, 1),
+        (parts + 1, PARTS, 0),
+        (parts + 13, PARTS, 2),
+        (assertions + 10, ASSERTIONS, 0),
+        (assertions + 23, ASSERTIONS, 1),
+    ] {
         let mut sheet = sheet.clone();
         sheet[at] = 1;
-        assert_eq!(number(&sheet), 16);
+        assert_eq!(fault(&sheet), (16, table, record));
+    }
+}
+
+/// A row before a part, whatever their numbers, and of two rows the first.
+#[test]
+fn first_in_table_order() {
+    let broken = |row: usize, part: usize| {
+        changed(|draft| {
+            draft.rows[row].0 = 9;
+            draft.parts[part].0 = 9;
+        })
+    };
+    assert_eq!(broken(8, 0), (16, ROWS, 8));
+    assert_eq!(broken(0, 2), (16, ROWS, 0));
+    let two_rows = changed(|draft| {
+        draft.rows[3].0 = 9;
+        draft.rows[7].0 = 9;
+    });
+    assert_eq!(two_rows, (16, ROWS, 3));
+}
+
+/// A long term of the last assertion is told only where no record is broken.
+#[test]
+fn terms_after_records() {
+    let long = |draft: &mut Draft| {
+        let long = draft.add_part(3, 0, 61);
+        draft.assert((2, 0), (0, 0), (0, 0));
+        draft.assert((3, 0), (0, 0), (long, 1));
+        draft.assert((1, 0), (long, 1), (0, 0));
+    };
+    assert_eq!(changed(long), (17, ASSERTIONS, 4));
+    let broken_too = changed(|draft| {
+        long(draft);
+        draft.assertions[5].sign = 2;
+    });
+    assert_eq!(broken_too, (16, ASSERTIONS, 5));
+}
+
+/// Many sheets with faults in known places: the first is told, by solver and maker alike.
+#[test]
+fn faults_in_known_places() {
+    let sheets = |case| -> Vec<Faulty> {
+        let s = &mut Seeded::new(11, case);
+        [each_field(s), two_at_once(s)].concat()
+    };
+    for (sheet, first) in (0..60).flat_map(sheets) {
+        let solved = solve(&sheet, 9, &mut [], &mut []);
+        assert_eq!((solved.fault(), solved.length, solved.trials), (first, 0, 0), "{sheet:?}");
+        let made = make(&sheet, 0, 61, &mut []);
+        assert_eq!((made.fault(), made.length), (first, 0), "{sheet:?}");
     }
 }
 
@@ -138,15 +231,18 @@ fn maker_after_sheet() {
         let mut list = vec![9; space];
         let made = make(sheet, row, length, &mut list);
         assert!(made.number == 0 || (made.length == 0 && list.iter().all(|&byte| byte == 9)));
-        made.number
+        told(made.fault())
     };
-    assert_eq!(refused(&sheet[1..], 2, 61, 0), 13);
-    assert_eq!(refused(&sheet, 2, 61, 0), 20);
-    assert_eq!(refused(&sheet, 65_537, 2, 200), 20);
-    assert_eq!(refused(&sheet, 1, 61, 0), 21);
-    assert_eq!(refused(&sheet, 1, 256, 0), 21);
-    assert_eq!(refused(&sheet, 1, 2, 107), 22);
-    assert_eq!(refused(&sheet, 1, 2, 108), 0);
+    assert_eq!(refused(&sheet[1..], 2, 61, 0), alone(13));
+    assert_eq!(refused(&with(&sheet, -18, 257), 2, 61, 0), (14, ROWS, 0));
+    assert_eq!(refused(&with(&sheet, -30, 61), 2, 61, 0), alone(141));
+    assert_eq!(refused(&with(&sheet, 8, 7), 2, 61, 0), (16, ROWS, 1));
+    assert_eq!(refused(&sheet, 2, 61, 0), alone(20));
+    assert_eq!(refused(&sheet, 65_537, 2, 200), alone(20));
+    assert_eq!(refused(&sheet, 1, 61, 0), alone(21));
+    assert_eq!(refused(&sheet, 1, 256, 0), alone(21));
+    assert_eq!(refused(&sheet, 1, 2, 107), alone(22));
+    assert_eq!(refused(&sheet, 1, 2, 108), ACCEPTED);
 }
 
 /// The list of K12.

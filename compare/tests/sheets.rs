@@ -5,7 +5,7 @@ use std::path::PathBuf;
 
 use compare::count::count;
 use compare::everyday;
-use compare::keys::{keys, BUDGET};
+use compare::keys::{faulty, keys, BUDGET};
 use compare::program::line;
 use compare::second::gate::gate;
 use compare::second::sheet::{read_u16, Sheet, TABLES};
@@ -69,7 +69,7 @@ fn asked_back() {
 
 #[test]
 fn kept_keys() {
-    for key in keys() {
+    for key in keys().into_iter().chain(faulty()) {
         assert_eq!(sheet(key.name), key.sheet, "{}", key.name);
     }
 }

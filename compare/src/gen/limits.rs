@@ -91,7 +91,7 @@ fn add_assertions(s: &mut Seeded, draft: &mut Draft, count: usize) {
         } else {
             add_easy_assertion(s, draft);
         }
-        if Sheet::check(&draft.bytes()) == Err(17) {
+        if Sheet::check(&draft.bytes()).is_err_and(|fault| fault.number == 17) {
             draft.assertions.pop();
         }
     }

@@ -44,7 +44,7 @@ fn byte(s: &mut Seeded) -> u8 {
     }
 }
 
-fn range(s: &mut Seeded) -> (u8, u8) {
+pub fn range(s: &mut Seeded) -> (u8, u8) {
     let low = byte(s);
     (low, low.saturating_add(s.below(2) as u8))
 }

@@ -1,26 +1,45 @@
 //! The maker of cut lists: refusals 10 to 17 and 20 to 22, and the exact bytes of the list.
 
 use super::derive::derives_word;
+use super::fault::Fault;
 use super::sheet::{Row, Sheet, LENGTH_LIMIT};
 
 #[derive(Clone, Copy, PartialEq, Eq, Debug)]
 pub struct Made {
     pub number: u32,
+    pub table: u32,
+    pub record: u32,
     pub length: u32,
+}
+
+impl Made {
+    /// A list of so many bytes.
+    pub fn written(length: usize) -> Made {
+        Made { number: 0, table: 0, record: 0, length: length as u32 }
+    }
+
+    fn refused(Fault { number, table, record }: Fault) -> Made {
+        Made { number, table, record, length: 0 }
+    }
+
+    /// The number, with what it is about.
+    pub fn fault(&self) -> Fault {
+        Fault { number: self.number, table: self.table, record: self.record }
+    }
 }
 
 pub fn make(bytes: &[u8], row: u64, length: u64, list: &mut [u8]) -> Made {
     let plan = match Plan::check(bytes, row, length) {
         Ok(plan) => plan,
-        Err(number) => return Made { number, length: 0 },
+        Err(fault) => return Made::refused(fault),
     };
     // The size is known before a byte is written: the longest lists are far longer than the space.
     let size = plan.size();
     if size > list.len() {
-        return Made { number: 22, length: 0 };
+        return Made::refused(Fault::alone(22));
     }
     list[..size].copy_from_slice(&plan.write(size));
-    Made { number: 0, length: size as u32 }
+    Made::written(size)
 }
 
 /// What a list is made of.
@@ -36,13 +55,13 @@ pub struct Plan {
 
 impl Plan {
     /// Refusals 10 to 17, 20 and 21.
-    pub fn check(bytes: &[u8], row: u64, length: u64) -> Result<Plan, u32> {
+    pub fn check(bytes: &[u8], row: u64, length: u64) -> Result<Plan, Fault> {
         let sheet = Sheet::check(bytes)?;
         if row >= sheet.rows.len() as u64 {
-            return Err(20);
+            return Err(Fault::alone(20));
         }
         if length > LENGTH_LIMIT as u64 {
-            return Err(21);
+            return Err(Fault::alone(21));
         }
         let rows = 0..sheet.rows.len();
         let empty: Vec<bool> = rows.clone().map(|row| derives_word(&sheet, row, &[])).collect();

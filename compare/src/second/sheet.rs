@@ -1,4 +1,7 @@
-//! The checker of a problem sheet: refusals 10 to 17 in the paper's order, then the sheet parsed.
+//! The checker of a problem sheet: refusals 10 to 17 in the papers' order, 141 behind 14, then the
+//! sheet parsed.
+
+use super::fault::Fault;
 
 /// Bytes of the trailer that ends every sheet.
 pub const TRAILER: usize = 32;
@@ -22,6 +25,13 @@ const fn table(record: usize, fewest: usize, most: usize) -> Table {
 /// Letters, text, rows, parts, assertions.
 pub const TABLES: [Table; 5] =
     [table(2, 1, 8), table(1, 0, 1_024), table(6, 0, 256), table(6, 0, 64), table(12, 0, 32)];
+
+/// The tables' numbers.
+pub const LETTERS: usize = 0;
+pub const TEXT: usize = 1;
+pub const ROWS: usize = 2;
+pub const PARTS: usize = 3;
+pub const ASSERTIONS: usize = 4;
 
 /// Bytes of the text table.
 #[derive(Clone, Copy, PartialEq, Eq, Debug)]
@@ -82,15 +92,13 @@ pub struct Sheet {
 }
 
 impl Sheet {
-    /// The sheet, or the number of its refusal.
-    pub fn check(bytes: &[u8]) -> Result<Sheet, u32> {
-        let trailer = Trailer::check(bytes)?;
-        let sheet = trailer.records(bytes).ok_or(16u32)?;
-        let fits = |a: &Assertion| a.terms().all(|term| sheet.term_length(term) <= LENGTH_LIMIT);
-        if sheet.assertions.iter().all(fits) {
-            Ok(sheet)
-        } else {
-            Err(17)
+    /// The sheet, or its first fault.
+    pub fn check(bytes: &[u8]) -> Result<Sheet, Fault> {
+        let sheet = Trailer::check(bytes)?.sheet(bytes)?;
+        let long = |a: &Assertion| a.terms().any(|term| sheet.term_length(term) > LENGTH_LIMIT);
+        match sheet.assertions.iter().position(long) {
+            None => Ok(sheet),
+            Some(record) => Err(Fault::at(17, ASSERTIONS, record)),
         }
     }
 
@@ -142,26 +150,29 @@ struct Trailer {
 
 impl Trailer {
     /// Refusals 10 to 15.
-    fn check(bytes: &[u8]) -> Result<Trailer, u32> {
+    fn check(bytes: &[u8]) -> Result<Trailer, Fault> {
         if bytes.len() < TRAILER {
-            return Err(10);
+            return Err(Fault::alone(10));
         }
         if bytes.len() > SHEET_LIMIT {
-            return Err(11);
+            return Err(Fault::alone(11));
         }
         let end = bytes.len() - TRAILER;
         let trailer = Trailer::read(&bytes[end..]);
         if &bytes[bytes.len() - 4..] != MARK {
-            return Err(12);
+            return Err(Fault::alone(12));
         }
         if read_u32(bytes, bytes.len() - 8) as usize != bytes.len() {
-            return Err(13);
+            return Err(Fault::alone(13));
         }
-        if !trailer.within_limits() {
-            return Err(14);
+        if let Some(table) = trailer.first_miscounted() {
+            return Err(Fault::at(14, table, 0));
+        }
+        if trailer.shortest > trailer.longest || trailer.longest > LENGTH_LIMIT {
+            return Err(Fault::alone(141));
         }
         if !trailer.end_to_end(end) {
-            return Err(15);
+            return Err(Fault::alone(15));
         }
         Ok(trailer)
     }
@@ -176,10 +187,10 @@ impl Trailer {
         }
     }
 
-    fn within_limits(&self) -> bool {
-        let counts = self.tables.iter().map(|&(_, count)| count);
-        let counted = counts.zip(&TABLES).all(|(count, t)| t.fewest <= count && count <= t.most);
-        counted && self.shortest <= self.longest && self.longest <= LENGTH_LIMIT
+    /// The first table whose count is outside its limits.
+    fn first_miscounted(&self) -> Option<usize> {
+        let mut counts = self.tables.iter().map(|&(_, count)| count).zip(&TABLES);
+        counts.position(|(count, table)| count < table.fewest || count > table.most)
     }
 
     fn end_to_end(&self, end: usize) -> bool {
@@ -193,37 +204,42 @@ impl Trailer {
         at == end
     }
 
-    /// Every record parsed, or nothing if one breaks its rule.
-    fn records(&self, bytes: &[u8]) -> Option<Sheet> {
-        let table = |i: usize| {
-            let (offset, count) = self.tables[i];
-            let record = TABLES[i].record;
-            bytes[offset..offset + count * record].chunks_exact(record)
-        };
+    /// Every record parsed, or the first that breaks its rule: the tables are read in order.
+    fn sheet(&self, bytes: &[u8]) -> Result<Sheet, Fault> {
         let [_, text, rows, parts, _] = self.tables.map(|(_, count)| count);
-        Some(Sheet {
-            letters: letters(table(0))?,
-            text: table(1).map(|record| record[0]).collect(),
-            rows: table(2).map(|record| row(record, text, rows)).collect::<Option<_>>()?,
-            parts: table(3).map(|record| part(record, text)).collect::<Option<_>>()?,
-            assertions: table(4)
-                .map(|record| assertion(record, text, rows, parts))
-                .collect::<Option<_>>()?,
+        Ok(Sheet {
+            letters: union(self.records(bytes, LETTERS, range)?),
+            text: self.records(bytes, TEXT, |record| Some(record[0]))?,
+            rows: self.records(bytes, ROWS, |record| row(record, text, rows))?,
+            parts: self.records(bytes, PARTS, |record| part(record, text))?,
+            assertions: self
+                .records(bytes, ASSERTIONS, |record| assertion(record, text, rows, parts))?,
             shortest: self.shortest,
             longest: self.longest,
         })
     }
+
+    /// The records of one table parsed, or the first that cannot be.
+    fn records<T>(
+        &self,
+        bytes: &[u8],
+        table: usize,
+        parse: impl Fn(&[u8]) -> Option<T>,
+    ) -> Result<Vec<T>, Fault> {
+        let (offset, count) = self.tables[table];
+        let size = TABLES[table].record;
+        let records = bytes[offset..offset + count * size].chunks_exact(size).enumerate();
+        records.map(|(i, record)| parse(record).ok_or(Fault::at(16, table, i))).collect()
+    }
 }
 
-fn letters<'a>(records: impl Iterator<Item = &'a [u8]>) -> Option<Vec<u8>> {
-    let mut union = [false; 256];
-    for record in records {
-        if record[0] > record[1] {
-            return None;
-        }
-        union[record[0] as usize..=record[1] as usize].fill(true);
-    }
-    Some((0..=255u8).filter(|&byte| union[byte as usize]).collect())
+fn range(record: &[u8]) -> Option<(u8, u8)> {
+    (record[0] <= record[1]).then_some((record[0], record[1]))
+}
+
+/// Each byte of the ranges once, rising.
+fn union(ranges: Vec<(u8, u8)>) -> Vec<u8> {
+    (0..=255).filter(|byte| ranges.iter().any(|(low, high)| low <= byte && byte <= high)).collect()
 }
 
 fn row(record: &[u8], text: usize, rows: usize) -> Option<Row> {

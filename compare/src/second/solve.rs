@@ -1,5 +1,6 @@
 //! The solver: the walk with its trials, and what the call says and leaves.
 
+use super::fault::Fault;
 use super::open::open;
 use super::sheet::Sheet;
 
@@ -9,8 +10,26 @@ pub const WORK: usize = 7_564;
 #[derive(Clone, Copy, PartialEq, Eq, Debug)]
 pub struct Solved {
     pub number: u32,
+    pub table: u32,
+    pub record: u32,
     pub length: u32,
     pub trials: u64,
+}
+
+impl Solved {
+    /// Found, none or spent.
+    pub fn walked(number: u32, length: usize, trials: u64) -> Solved {
+        Solved { number, table: 0, record: 0, length: length as u32, trials }
+    }
+
+    fn refused(Fault { number, table, record }: Fault) -> Solved {
+        Solved { number, table, record, length: 0, trials: 0 }
+    }
+
+    /// The number, with what it is about.
+    pub fn fault(&self) -> Fault {
+        Fault { number: self.number, table: self.table, record: self.record }
+    }
 }
 
 /// A whole walk: its full count, and the word if one was found.
@@ -34,28 +53,28 @@ pub fn solve_by(
 ) -> Solved {
     let sheet = match check(bytes, work, out) {
         Ok(sheet) => sheet,
-        Err(number) => return Solved { number, length: 0, trials: 0 },
+        Err(fault) => return Solved::refused(fault),
     };
     let walked = walk(&sheet, budget);
     work[..WORK].fill(0);
     match walked {
-        None => Solved { number: 2, length: 0, trials: budget },
-        Some(Walked { trials, found: None }) => Solved { number: 1, length: 0, trials },
+        None => Solved::walked(2, 0, budget),
+        Some(Walked { trials, found: None }) => Solved::walked(1, 0, trials),
         Some(Walked { trials, found: Some(word) }) => {
             out[..word.len()].copy_from_slice(&word);
-            Solved { number: 0, length: word.len() as u32, trials }
+            Solved::walked(0, word.len(), trials)
         }
     }
 }
 
 /// Refusals 10 to 19.
-fn check(bytes: &[u8], work: &[u64], out: &[u8]) -> Result<Sheet, u32> {
+fn check(bytes: &[u8], work: &[u64], out: &[u8]) -> Result<Sheet, Fault> {
     let sheet = Sheet::check(bytes)?;
     if work.len() < WORK {
-        return Err(18);
+        return Err(Fault::alone(18));
     }
     if out.len() < sheet.longest {
-        return Err(19);
+        return Err(Fault::alone(19));
     }
     Ok(sheet)
 }
