@@ -5,15 +5,13 @@ use mathlib.Core.Path.{_≡_, refl, sym, ap, _∙_}
 use mathlib.Core.Bool.{true, false, _&&_}
 use mathlib.Core.List.{List}
 use native.Mathlib.Omega.{arith}
-use native.Mathlib.Nat.{div-eq-of-lt, div-lt-iff-lt-mul}
 use lib.Dec.{eqb}
 use lib.ListN.{getD}
 use lib.Bits.{bitAnd, and-mask, and-shr, and-mod}
-use lib.Pow.{pow-mono, pow-pos}
 use borrow.Author.Tests.{lt-ltb, eq-eqb, ne-eqb}
 use Rattle.workspace.specs.Bits.{bit, bitAt}
 use Rattle.workspace.proofs.Spans.{lt-or-le}
-use Rattle.workspace.proofs.Words.{bit-lt}
+use Rattle.workspace.proofs.Words.{none-above, bit-lt}
 use Rattle.maker_options.specs.Prepared.{chosen}
 
 bit-and : (x y k : ℕ) → bit (bitAnd x y) k ≡ bitAnd (bit x k) (bit y k)
@@ -48,14 +46,6 @@ module _ (ws : List ℕ) (r m : ℕ) where
 
   pub pick-not : (k : ℕ) → k < 256 → (bitAnd (pairOf ws r m (k / 64) / 2 ^ (k % 64)) 1 ≡ 1 → ⊥) → chosen ws r m k ≡ false
   pick-not k h e = chosen-is k h ∙ ne-eqb _ 1 (λ x. e (low-bit k ∙ x))
-
-  none-above : (x i j : ℕ) → x / 2 ^ i ≡ 0 → i ≤ j → bit x j ≡ 0
-  unfolding bit
-  none-above x i j e h =
-      let l : x < 1 * 2 ^ i = (div-lt-iff-lt-mul {k = 2 ^ i} {x = x} {y = 1} (pow-pos i)) .0 (omega arith) in
-      let p : 2 ^ i ≤ 2 ^ j = pow-mono h in
-      let u : x < 2 ^ j = omega arith in
-      ap (λ (z : ℕ). z % 2) (div-eq-of-lt u)
 
   -- a word with no bit left has none of its further rows
   pub pick-none : (q : ℕ) → q < 256 → pairOf ws r m (q / 64) / 2 ^ (q % 64) ≡ 0 → (k : ℕ) → q ≤ k → k < 64 * (q / 64) + 64 → chosen ws r m k ≡ false

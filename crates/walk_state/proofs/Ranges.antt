@@ -8,7 +8,8 @@ use mathlib.Core.List.{List}
 use borrow.Author.Tests.{lt-ltb, le-ltb, le-leb, lt-leb}
 use lib.Dec.{leb, ltb}
 use lib.ListN.{length, set}
-use lib.Seq.{getD-set-same, getD-set-other}
+use Rattle.workspace.specs.Bits.{setBit}
+use Rattle.workspace.proofs.Bits.{set-bit-same, set-bit-other}
 use Rattle.walk_state.specs.Letters.{hasLetter, Joined}
 
 module _ (of : List ℕ) (low high : ℕ) where
@@ -23,17 +24,17 @@ module _ (of : List ℕ) (low high : ℕ) where
       go (yes h) = rw (lt-leb low x h)
       go (no h) = rw (le-leb low x (omega arith), le-ltb x b (omega arith))
 
-  pub joined-more : (b : ℕ) (r : List ℕ) → low ≤ b → b ≤ high → b < length r → JoinedTo b r → JoinedTo (b + 1) (set r b 1)
+  pub joined-more : (b : ℕ) (r : List ℕ) → low ≤ b → b ≤ high → b < 256 → 4 ≤ length r → JoinedTo b r → JoinedTo (b + 1) (setBit r 0 b)
   unfolding hasLetter
-  joined-more b r h l m j x = go (ℕ-discrete x b)
+  joined-more b r h l m four j x = go (ℕ-discrete x b)
     where
       up : (x ≡ b → ⊥) → Dec (x < b) → ltb x (b + 1) ≡ ltb x b
       up e (yes y) = rw (lt-ltb x (b + 1) (omega arith), lt-ltb x b y)
       up e (no y) = rw (le-ltb x (b + 1) (omega arith), le-ltb x b (omega arith))
 
-      go : Dec (x ≡ b) → hasLetter (set r b 1) x ≡ ((leb low x && (ltb x (b + 1) && leb x high)) || hasLetter of x)
-      go (yes e) = rw (e, getD-set-same r b 1 0 m, le-leb low b h, lt-ltb b (b + 1) (omega arith), le-leb b high l)
-      go (no e) = rw (getD-set-other r b x 1 0 e, up e (decLt x b)) (j x)
+      go : Dec (x ≡ b) → hasLetter (setBit r 0 b) x ≡ ((leb low x && (ltb x (b + 1) && leb x high)) || hasLetter of x)
+      go (yes e) = rw (e, set-bit-same r 0 b (omega arith) m, le-leb low b h, lt-ltb b (b + 1) (omega arith), le-leb b high l)
+      go (no e) = rw (set-bit-other r 0 b x e, up e (decLt x b)) (j x)
 
   pub joined-end : (b : ℕ) (r : List ℕ) → high < b → JoinedTo b r → Joined of low high r
   joined-end b r h j x = j x ∙ ap (λ (t : Bool). (leb low x && t) || hasLetter of x) (go (decLt x b))

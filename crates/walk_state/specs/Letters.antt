@@ -3,12 +3,12 @@ use mathlib.Core.Path.{_≡_}
 use Prim.Native.Nat.{ℕ, _≤_, _<_}
 use mathlib.Core.Bool.{Bool, true, false, _&&_, _||_}
 use mathlib.Core.List.{List}
-use lib.Dec.{eqb, leb}
-use lib.ListN.{getD}
+use lib.Dec.{leb}
+use Rattle.workspace.specs.Bits.{bitAt}
 
--- b is a letter: the only way in which others look into the array
+-- b is a letter, its bit of the four words: the only way in which others look into them
 unfoldable pub hasLetter : List ℕ → ℕ → Bool
-hasLetter of b = eqb (getD of b 0) 1
+hasLetter of b = bitAt of 0 b
 
 -- no byte is a letter
 abbrev pub NoLetter : List ℕ → Type 0

@@ -4,49 +4,56 @@ ghost use Prim.Native.Nat.{_+_, _<_, _≤_};
 ghost use Rattle.walk_state.specs.Letters.{hasLetter, NoLetter, Joined, First};
 ghost use Rattle.walk_state.specs.Moves.{emptyPrefix, startState, longer, ending, shorter, downOf, nextOf, backOf, countedOf, passedOf, againOf, lastOf, sinceOf, Marks};
 
-// The letters, a byte for each possible one: 1 in, 0 out.
+// The letters, a bit for each possible one, in four words.
 pub struct Letters {
-    pub of: [u8; 256],
+    pub of: [u64; 4],
 }
 
 impl Letters {
     pub fn none() -> Self
         ensures { λ r. ⌜ NoLetter (r .of) ⌝ }
     {
-        Letters { of: [0u8; 256] }
+        Letters { of: [0u64; 4] }
     }
 
     // The letters from low to high besides.
-    pub fn with(mut self, low: u8, high: u8) -> Self
+    pub fn with(self, low: u8, high: u8) -> Self
         ensures { λ r. ⌜ Joined (self .of) low high (r .of) ⌝ }
     {
+        let mut of = self.of;
         let end = numbers::wide(high);
         let mut b = numbers::wide(low);
         while b <= end {
-            self.of[b] = 1;
+            workspace::set(&mut of, 0, b);
             b += 1;
         }
-        self
+        Letters { of }
     }
 
     pub fn has(self, b: u8) -> bool
         ensures { λ r. ⌜ r ≡ hasLetter (self .of) b ⌝ }
     {
-        let at = numbers::wide(b);
-        self.of[at] == 1
+        let of = self.of;
+        workspace::test(&of, 0, numbers::wide(b))
     }
 
-    // The first letter at or after c, or 256.
+    // The first letter at or after c, or 256. A word with no letter left is passed over whole.
     pub fn first_from(self, c: usize) -> usize
         requires { ⌜ c ≤ 256 ⌝ }
         ensures { λ r. ⌜ First (hasLetter (self .of)) c r ⌝ }
     {
+        let of = self.of;
         let mut at = c;
         while at < 256 {
-            if self.has(at as u8) {
+            let x = of[at / 64] >> (at % 64);
+            if x & 1 == 1 {
                 return at;
             }
-            at += 1;
+            if x == 0 {
+                at = 64 * (at / 64) + 64;
+            } else {
+                at += 1;
+            }
         }
         at
     }

@@ -27,7 +27,7 @@ pub bit-past : (ws : List ℕ) (s r : ℕ) → 256 ≤ r → bitAt ws s r ≡ fa
 unfolding bitAt
 bit-past ws s r h = rw (le-ltb r 256 h)
 
-bit-in : (ws : List ℕ) (s r : ℕ) → r < 256 → bitAt ws s r ≡ eqb (bit (wordAt ws s (r / 64)) (r % 64)) 1
+pub bit-in : (ws : List ℕ) (s r : ℕ) → r < 256 → bitAt ws s r ≡ eqb (bit (wordAt ws s (r / 64)) (r % 64)) 1
 unfolding bitAt
 bit-in ws s r h = rw (lt-ltb r 256 h)
 
@@ -37,7 +37,7 @@ unfolding bitAt
 by-word l ws s t r f = lt-or-le r 256 (λ h. rw (f h)) (λ h. rw (le-ltb r 256 h))
 
 -- a word of no bits
-no-word : (ws : List ℕ) (s r : ℕ) → (r < 256 → wordAt ws s (r / 64) ≡ 0) → bitAt ws s r ≡ false
+pub no-word : (ws : List ℕ) (s r : ℕ) → (r < 256 → wordAt ws s (r / 64) ≡ 0) → bitAt ws s r ≡ false
 no-word ws s r f = lt-or-le r 256 (λ h. bit-in ws s r h ∙ rw (f h, bit-zero (r % 64))) (bit-past ws s r)
 
 -- ---- the code's forms

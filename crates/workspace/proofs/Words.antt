@@ -4,11 +4,11 @@ use mathlib.Core.Path.{_≡_, refl, ap, _∙_}
 use mathlib.Core.Logic.{_≢_}
 use mathlib.Core.List.{List}
 use Prim.Native.Nat.{ℕ, zero, suc, _+_, _-_, _*_, _/_, _%_, _^_, _≤_, _<_}
-use native.Mathlib.Nat.{add-zero, div-eq-of-lt, zero-div}
+use native.Mathlib.Nat.{add-zero, div-eq-of-lt, div-lt-iff-lt-mul, zero-div}
 use native.Mathlib.Omega.{arith}
 use lib.ListN.{length, getD, set, drop, length-set}
 use lib.Seq.{getD-set-same, getD-set-other, drop-set-lt}
-use lib.Pow.{pow-add, pow-lt, shl-shr}
+use lib.Pow.{pow-add, pow-lt, pow-mono, pow-pos, shl-shr}
 use lib.Bits.{bitOr, or-shr, or-mod, or-zero-r, or-add-and, and-le-l, and-le-r}
 use Rattle.workspace.specs.Bits.{bit, fourAt, wordAt}
 use Rattle.workspace.proofs.Spans.{lt-or-le}
@@ -49,6 +49,15 @@ or-one : (b : ℕ) → b < 2 → bitOr b 1 ≡ 1
 or-one zero h = refl
 or-one (suc zero) h = refl
 or-one (suc (suc b)) h = absurd (omega arith)
+
+-- a word shifted to nothing has no bit from there on
+pub none-above : (x i j : ℕ) → x / 2 ^ i ≡ 0 → i ≤ j → bit x j ≡ 0
+unfolding bit
+none-above x i j e h =
+    let l : x < 1 * 2 ^ i = (div-lt-iff-lt-mul {k = 2 ^ i} {x = x} {y = 1} (pow-pos i)) .0 (omega arith) in
+    let p : 2 ^ i ≤ 2 ^ j = pow-mono h in
+    let u : x < 2 ^ j = omega arith in
+    ap (λ (z : ℕ). z % 2) (div-eq-of-lt u)
 
 pub mark-same : (x k : ℕ) → bit (bitOr x (2 ^ k)) k ≡ 1
 mark-same x k = bit-or x (2 ^ k) k ∙ ap (bitOr (bit x k)) (mask-same k) ∙ or-one (bit x k) (bit-lt x k)
