@@ -1,3 +1,1 @@
-pub mod Holding
-pub mod Stages
 pub mod Coincide

@@ -1,3 +1,1 @@
-pub mod Readable
-pub mod Marks
 pub mod Number

@@ -1,6 +1,5 @@
 // The gate: reads any well-formed cut list and says whether the list accepts a word. It knows nothing of sheets or solving.
 pub mod answer;
-mod marks;
 
 pub use answer::Gate;
 pub use answer::number;
@@ -21,7 +20,7 @@ pub fn gate(list: &[u8], text: &[u8], word: &[u8], work: &mut [u64]) -> Gate
     if work.len() < paper::WORDS {
         return Gate::Workspace;
     }
-    if marks::read(list, text, word, work) {
+    if reading::read(list, text, word, work) {
         Gate::Yes
     } else {
         Gate::No

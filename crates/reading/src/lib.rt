@@ -9,8 +9,8 @@ ghost use Rattle.paper.specs.Gate.{nOf, rowsOf, groupAt, headAt, headEnd, «hol
 ghost use Rattle.paper.specs.Answers.{words, zeroed};
 ghost use Rattle.paper.proofs.Obeys.{Obeys};
 ghost use Rattle.list.specs.Read.{optionOf};
-ghost use Rattle.gate.specs.Readable.{Readable};
-ghost use Rattle.gate.specs.Marks.{inTable, markStart, markOption, markHead, markGroup, marked};
+ghost use Rattle.reading.specs.Readable.{Readable};
+ghost use Rattle.reading.specs.Marks.{inTable, markStart, markOption, markHead, markGroup, marked};
 
 // Whether the part of the text stands in the word from place i on.
 fn stands(part: &[u8], word: &[u8], i: usize) -> bool

@@ -1,12 +1,12 @@
 use native.Mathlib.Omega.{arith}
 use mathlib.Core.Path.{ap, _∙_}
 use Rattle.paper.proofs.WellFormed.{formed}
-use Rattle.gate.proofs.Stages.{marked-reads, marked-zeroed}
+use Rattle.reading.proofs.Stages.{marked-reads, marked-zeroed}
 use Rattle.list.proofs.Formed.{right-trailer}
-use Rattle.gate.specs.Marks.{marked}
+use Rattle.reading.specs.Marks.{marked}
 use borrow.Author.Needs.{needs}
-use Rattle.gate.proofs.marks.read.Statement.{statement}
-use Rattle.gate.proofs.marks.read.Tie as tie
+use Rattle.reading.proofs.read.Statement.{statement}
+use Rattle.reading.proofs.read.Tie as tie
 
 mark-groups-requires : tie.Need-mark-groups-requires
 mark-groups-requires c κs =

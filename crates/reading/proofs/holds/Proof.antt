@@ -3,14 +3,14 @@ use native.Mathlib.Omega.{arith}
 use native.Mathlib.Nat.{add-sub-cancel-left}
 use mathlib.Core.Path.{subst}
 use borrow.Author.Tests.{le-leb, lt-leb}
-use Rattle.gate.proofs.Holding.{holds-byte, holds-stretch, holds-split, holds-nil}
-use Rattle.gate.specs.Marks.{inTable}
+use Rattle.reading.proofs.Holding.{holds-byte, holds-stretch, holds-split, holds-nil}
+use Rattle.reading.specs.Marks.{inTable}
 use Rattle.list.specs.Read.{optionOf}
 use Rattle.paper.proofs.Obeys.{Obeys}
 use Rattle.paper.specs.Cuts.{Byte, Stretch, Split}
 use borrow.Author.Needs.{needs}
-use Rattle.gate.proofs.marks.holds.Statement.{statement}
-use Rattle.gate.proofs.marks.holds.Tie as tie
+use Rattle.reading.proofs.holds.Statement.{statement}
+use Rattle.reading.proofs.holds.Tie as tie
 
 byte : (p : tie.After-known-told) → Obeys (length (p .before .before .before .before .before .before .args .text .now)) 256 (p .before .before .before .before .before .before .args .m) (Byte (p .before .x .given .0 .0) (p .before .x .given .0 .1 .0))
 byte p = subst (λ z. Obeys (length (p .before .before .before .before .before .before .args .text .now)) 256 (p .before .before .before .before .before .before .args .m) (optionOf z)) (p .before .x .given .1) (p .before .before .before .before .before .before .pre .0)

@@ -1,4 +1,4 @@
--- How the gate fills its table: the shorter lengths first, in a length head by head, in a head option by option, for an option start by start.
+-- How the reading fills its table: the shorter lengths first, in a length head by head, in a head option by option, for an option start by start.
 use Prim.Native.Nat.{ℕ, zero, suc, _-_}
 use mathlib.Core.Bool.{cond}
 use mathlib.Core.List.{List}

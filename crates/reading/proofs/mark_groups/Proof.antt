@@ -3,13 +3,13 @@ use lib.ListN.{length}
 use native.Mathlib.Omega.{arith}
 use mathlib.Core.Path.{_≡_, refl, sym, ap, _∙_}
 use Prim.Native.Nat.{_+_, _-_, _≤_}
-use Rattle.gate.proofs.Stages.{turn-none, turn-more}
+use Rattle.reading.proofs.Stages.{turn-none, turn-more}
 use Rattle.list.proofs.Formed.{begins}
 use Rattle.list.proofs.ListLaws.{group-none, group-next}
-use Rattle.gate.specs.Marks.{inTurn, markGroup, marked}
+use Rattle.reading.specs.Marks.{inTurn, markGroup, marked}
 use Rattle.paper.specs.Gate.{headAt, groupBegin}
-use Rattle.gate.proofs.marks.mark_groups.Statement.{statement}
-use Rattle.gate.proofs.marks.mark_groups.Tie as tie
+use Rattle.reading.proofs.mark_groups.Statement.{statement}
+use Rattle.reading.proofs.mark_groups.Tie as tie
 
 -- the first m groups are marked, and `at` is where the next one begins
 abbrev Inv-loop : tie.InvT-loop

@@ -3,9 +3,9 @@ use native.Mathlib.Omega.{arith}
 use mathlib.Core.Path.{_≡_, sym}
 use Prim.Native.Nat.{ℕ, _+_, _-_, _≤_, _<_}
 use borrow.Author.Count.{below-more}
-use Rattle.gate.proofs.Holding.{stands-yes, stands-no}
-use Rattle.gate.proofs.marks.stands.Statement.{statement}
-use Rattle.gate.proofs.marks.stands.Tie as tie
+use Rattle.reading.proofs.Holding.{stands-yes, stands-no}
+use Rattle.reading.proofs.stands.Statement.{statement}
+use Rattle.reading.proofs.stands.Tie as tie
 
 -- the first j bytes of the part stand in the word
 abbrev Inv-loop : tie.InvT-loop

@@ -3,12 +3,12 @@ use lib.ListN.{length}
 use native.Mathlib.Omega.{arith}
 use mathlib.Core.Path.{_≡_, refl, sym, ap, _∙_}
 use Prim.Native.Nat.{_-_, _≤_}
-use Rattle.gate.proofs.Stages.{turn-none, turn-more}
+use Rattle.reading.proofs.Stages.{turn-none, turn-more}
 use Rattle.list.proofs.ListLaws.{head-first, head-next}
-use Rattle.gate.specs.Marks.{inTurn, markHead, markGroup}
+use Rattle.reading.specs.Marks.{inTurn, markHead, markGroup}
 use Rattle.paper.specs.Gate.{headEnd, headAt}
-use Rattle.gate.proofs.marks.mark_group.Statement.{statement}
-use Rattle.gate.proofs.marks.mark_group.Tie as tie
+use Rattle.reading.proofs.mark_group.Statement.{statement}
+use Rattle.reading.proofs.mark_group.Tie as tie
 
 -- the heads of the first r rows are marked, and o is where the next one begins
 abbrev Inv-loop : tie.InvT-loop

@@ -25,7 +25,7 @@ use Rattle.workspace.specs.Bits.{bitAt, setBit}
 use Rattle.workspace.proofs.Spans.{lt-or-le, span-lt, span-inj}
 use Rattle.workspace.proofs.Bits.{length-set-bit, set-bit-same, set-bit-other, set-bit-apart, drop-set-bit, zeroed-bit, length-zeroed, drop-zeroed, zeroed-same}
 use Rattle.list.proofs.Formed.{option-obeys}
-use Rattle.gate.specs.Marks.{inTable, inTurn, markStart, markOption, markAt, markHead, markGroup, marked}
+use Rattle.reading.specs.Marks.{inTable, inTurn, markStart, markOption, markAt, markHead, markGroup, marked}
 
 -- ---- in turn
 

@@ -1,8 +1,8 @@
 use borrow.Author.Tests.{not-true, not-false}
-use Rattle.gate.specs.Marks.{markStart}
+use Rattle.reading.specs.Marks.{markStart}
 use borrow.Author.Needs.{needs}
-use Rattle.gate.proofs.marks.mark_start.Statement.{statement}
-use Rattle.gate.proofs.marks.mark_start.Tie as tie
+use Rattle.reading.proofs.mark_start.Statement.{statement}
+use Rattle.reading.proofs.mark_start.Tie as tie
 
 returns : tie.Need-returns
 unfolding markStart

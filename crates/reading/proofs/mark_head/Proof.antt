@@ -4,14 +4,14 @@ use native.Mathlib.Omega.{arith}
 use mathlib.Core.Path.{_≡_, refl, sym, ap, _∙_, subst}
 use Prim.Native.Nat.{_-_, _≤_, _<_}
 use Rattle.paper.proofs.WellFormed.{formed}
-use Rattle.gate.proofs.Stages.{turn-none, turn-more, mark-at, mark-head}
+use Rattle.reading.proofs.Stages.{turn-none, turn-more, mark-at, mark-head}
 use Rattle.list.proofs.Formed.{head-inside, option-inside}
-use Rattle.gate.specs.Marks.{inTurn, markAt, markOption}
+use Rattle.reading.specs.Marks.{inTurn, markAt, markOption}
 use Rattle.list.specs.Read.{optionOf}
 use Rattle.paper.proofs.Obeys.{Obeys}
 use Rattle.paper.specs.Gate.{headEnd, optionCount}
-use Rattle.gate.proofs.marks.mark_head.Statement.{statement}
-use Rattle.gate.proofs.marks.mark_head.Tie as tie
+use Rattle.reading.proofs.mark_head.Statement.{statement}
+use Rattle.reading.proofs.mark_head.Tie as tie
 
 -- the first j options are marked
 abbrev Inv-loop : tie.InvT-loop

@@ -3,11 +3,11 @@ use lib.ListN.{length}
 use native.Mathlib.Omega.{arith}
 use mathlib.Core.Path.{_≡_, refl, sym, ap, _∙_}
 use Prim.Native.Nat.{_+_, _-_, _≤_}
-use Rattle.gate.proofs.Stages.{turn-none, turn-more}
-use Rattle.gate.specs.Marks.{inTurn, markStart, markOption}
+use Rattle.reading.proofs.Stages.{turn-none, turn-more}
+use Rattle.reading.specs.Marks.{inTurn, markStart, markOption}
 use Rattle.list.specs.Read.{optionOf}
-use Rattle.gate.proofs.marks.mark_option.Statement.{statement}
-use Rattle.gate.proofs.marks.mark_option.Tie as tie
+use Rattle.reading.proofs.mark_option.Statement.{statement}
+use Rattle.reading.proofs.mark_option.Tie as tie
 
 -- the option is marked at the first i starts
 abbrev Inv-loop : tie.InvT-loop
