@@ -1,4 +1,3 @@
 pub mod Options
-pub mod Picking
 pub mod Turns
 pub mod Entries

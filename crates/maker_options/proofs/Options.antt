@@ -17,8 +17,9 @@ use Rattle.paper.specs.Cuts.{Opt, Split, Nil, splits, ownOpts, options}
 use Rattle.paper.proofs.Tests.{and-left}
 use Rattle.paper.proofs.Gathered.{gather-suc, gather-length, gather-rises}
 use Rattle.workspace.specs.Bits.{bitAt}
+use Rattle.workspace.specs.Scan.{inBoth, First}
 use Rattle.maker_options.specs.Giving.{giving, fromRow, fromBelow}
-use Rattle.maker_options.specs.Prepared.{Ready, chosen, Next}
+use Rattle.maker_options.specs.Prepared.{Ready, chosen}
 
 -- ---- the splits
 
@@ -62,7 +63,7 @@ none-of (o ∷ x) h = let e : suc (length x) ≡ 0 = eqb-true (suc (length x)) 0
 
 module _ (g : Grammar) (n : ℕ) (ws : List ℕ) (ready : Ready g n ws) (m r : ℕ) (low : 1 ≤ m) (high : m ≤ n) (inside : r < length (g .rows)) where
   row-none : (k : ℕ) → k < length (g .rows) → chosen ws r m k ≡ false → fromRow g m r k ≡ []
-  unfolding chosen fromRow giving
+  unfolding inBoth fromRow giving
   row-none k l h = go (reaches g r k) refl
     where
       go : (b : Bool) → reaches g r k ≡ b → cond (reaches g r k) (ownOpts m k (row g k)) [] ≡ []
@@ -70,12 +71,12 @@ module _ (g : Grammar) (n : ℕ) (ws : List ℕ) (ready : Ready g n ws) (m r : �
       go true e = cond-none (reaches g r k) (ownOpts m k (row g k)) (none-of (ownOpts m k (row g k)) (sym (ready .gives m k low high l) ∙ (rw (ready .reached r k inside l, e) at h)))
 
   row-here : (q : ℕ) → q < length (g .rows) → chosen ws r m q ≡ true → fromRow g m r q ≡ ownOpts m q (row g q)
-  unfolding chosen fromRow
+  unfolding inBoth fromRow
   row-here q l h = rw (sym (ready .reached r q inside l) ∙ and-left (bitAt ws r q) _ h)
 
   -- the rows that are passed over give nothing
-  pub below-next : (p q : ℕ) → Next ws r m p (length (g .rows)) q → fromBelow g m r q ≡ fromBelow g m r p
-  below-next p q h = below-skip g m r p q (h .from) (λ k l u. row-none k (omega (arith, h .most)) (h .none k l u))
+  pub below-next : (p q : ℕ) → First (chosen ws r m) p (length (g .rows)) q → fromBelow g m r q ≡ fromBelow g m r p
+  below-next p q h = below-skip g m r p q (h .low) (λ k l u. row-none k (omega (arith, h .high)) (h .gap k u l))
 
   -- the row that is met gives its own
   pub below-more : (q : ℕ) → q < length (g .rows) → chosen ws r m q ≡ true → fromBelow g m r (q + 1) ≡ fromBelow g m r q ++ ownOpts m q (row g q)

@@ -18,6 +18,7 @@ use Rattle.paper.proofs.Encoding.{length-entry, length-groups}
 use Rattle.paper.proofs.Sound.{Sound}
 use Rattle.paper.proofs.Obeys.{options-few, group-most, groups-most}
 use Rattle.workspace.specs.Bits.{bitAt}
+use Rattle.workspace.specs.Scan.{First}
 use Rattle.workspace.proofs.Spans.{lt-or-le}
 use Rattle.sheet_contents.specs.declared.Row.{Row}
 use Rattle.sheet_contents.specs.Read.{asRow}
@@ -26,7 +27,7 @@ use Rattle.sheet.proofs.Rows.{rows-few, rows-all}
 use Rattle.sheet.proofs.Soundness.{good-sound}
 use Rattle.maker_options.specs.declared.Job.{Job}
 use Rattle.maker_options.specs.Giving.{fromBelow}
-use Rattle.maker_options.specs.Prepared.{JobOf, Prepared, chosen, Next, Offsets}
+use Rattle.maker_options.specs.Prepared.{JobOf, Prepared, chosen, Offsets}
 use Rattle.maker_options.proofs.Options.{below-none, below-rises, below-next, below-more, below-done, options-nil}
 
 -- ---- entries and groups
@@ -112,21 +113,21 @@ module _ {s ws : List ℕ} {j : Job} (p : Prepared s ws j) where
       rows-in : r < length (grammarOf s .rows)
       rows-in = omega (arith, job-rows (p .job))
 
-      next-as : (a b : ℕ) → Next ws r m a (j .rows .count) b → Next ws r m a (length (grammarOf s .rows)) b
+      next-as : (a b : ℕ) → First (chosen ws r m) a (j .rows .count) b → First (chosen ws r m) a (length (grammarOf s .rows)) b
       next-as a b h = rw (job-rows (p .job)) at h
 
-      pub met-first : (q : ℕ) → Next ws r m 0 (j .rows .count) q → fromBelow (grammarOf s) m r q ≡ []
+      pub met-first : (q : ℕ) → First (chosen ws r m) 0 (j .rows .count) q → fromBelow (grammarOf s) m r q ≡ []
       met-first q h = below-next (grammarOf s) (j .n) ws (p .ready) m r low high rows-in 0 q (next-as 0 q h) ∙ below-none (grammarOf s) m r
 
       met-own : (q : ℕ) (x : Row) → q < j .rows .count → chosen ws r m q ≡ true → RowRead s q x
           → fromBelow (grammarOf s) m r (q + 1) ≡ fromBelow (grammarOf s) m r q ++ ownOpts m q (asRow x)
       met-own q x l e h = below-more (grammarOf s) (j .n) ws (p .ready) m r low high rows-in q (omega (arith, job-rows (p .job))) e ∙ rw (h .same)
 
-      pub met-turn : (q t : ℕ) (x : Row) → q < j .rows .count → chosen ws r m q ≡ true → RowRead s q x → Next ws r m (q + 1) (j .rows .count) t
+      pub met-turn : (q t : ℕ) (x : Row) → q < j .rows .count → chosen ws r m q ≡ true → RowRead s q x → First (chosen ws r m) (q + 1) (j .rows .count) t
           → fromBelow (grammarOf s) m r t ≡ fromBelow (grammarOf s) m r q ++ ownOpts m q (asRow x)
       met-turn q t x l e y h = below-next (grammarOf s) (j .n) ws (p .ready) m r low high rows-in (q + 1) t (next-as (q + 1) t h) ∙ met-own q x l e y
 
-      pub met-length : (q t : ℕ) (x : Row) → q < j .rows .count → chosen ws r m q ≡ true → RowRead s q x → Next ws r m (q + 1) (j .rows .count) t
+      pub met-length : (q t : ℕ) (x : Row) → q < j .rows .count → chosen ws r m q ≡ true → RowRead s q x → First (chosen ws r m) (q + 1) (j .rows .count) t
           → length (fromBelow (grammarOf s) m r t) ≡ length (fromBelow (grammarOf s) m r q) + length (ownOpts m q (asRow x))
       met-length q t x l e y h = ap length (met-turn q t x l e y h) ∙ length-append (fromBelow (grammarOf s) m r q) (ownOpts m q (asRow x))
 

@@ -2,7 +2,7 @@
 use Prim.Native.Nat.{ℕ, _+_, _≤_, _<_}
 use mathlib.Core.Path.{_≡_}
 use mathlib.Core.Logic.{_≢_}
-use mathlib.Core.Bool.{Bool, true, false, _&&_}
+use mathlib.Core.Bool.{Bool, false}
 use mathlib.Core.List.{List}
 use lib.ListN.{length, getD}
 use Rattle.paper.specs.Rows.{Grammar}
@@ -10,6 +10,7 @@ use Rattle.paper.specs.Decide.{nullable, reaches}
 use Rattle.paper.specs.Sheet.{grammarOf}
 use Rattle.paper.specs.Cuts.{groups}
 use Rattle.workspace.specs.Bits.{bitAt}
+use Rattle.workspace.specs.Scan.{inBoth}
 use Rattle.rows.specs.Sets.{RowsAt}
 use Rattle.maker_options.specs.declared.Job.{Job}
 use Rattle.maker_options.specs.Giving.{giving}
@@ -32,16 +33,9 @@ pub record Prepared (s ws : List ℕ) (j : Job) : Type 0 where
   pub job : JobOf s j
   pub ready : Ready (grammarOf s) (j .n) ws
 
--- row r reaches row k, which gives an option at length m
-unfoldable pub chosen : List ℕ → (r m k : ℕ) → Bool
-chosen ws r m k = bitAt ws r k && bitAt ws (256 + m) k
-
--- q is the first such row from p on, or n
-pub record Next (ws : List ℕ) (r m p n q : ℕ) : Type 0 where
-  pub from : p ≤ q
-  pub most : q ≤ n
-  pub none : (k : ℕ) → p ≤ k → k < q → chosen ws r m k ≡ false
-  pub here : q < n → chosen ws r m q ≡ true
+-- row r reaches a row, which gives an option at length m
+abbrev pub chosen : List ℕ → (r m : ℕ) → ℕ → Bool
+chosen ws r m = inBoth ws r (256 + m)
 
 -- entry e holds those of the rows below n that pass the test; the other entries are as they were
 pub record Entry (e n : ℕ) (f : ℕ → Bool) (old now : List ℕ) : Type 0 where

@@ -4,9 +4,10 @@ ghost use Prim.Native.Nat.{_+_, _*_, _≤_, _<_};
 ghost use lib.ListN.{length};
 ghost use Rattle.paper.specs.Sheet.{grammarOf};
 ghost use Rattle.paper.specs.Cuts.{options, group, groups};
+ghost use Rattle.workspace.specs.Scan.{First};
 ghost use Rattle.sheet_contents.specs.Read.{asRow};
 ghost use Rattle.maker_options.specs.Giving.{Gives};
-ghost use Rattle.maker_options.specs.Prepared.{Prepared, Next, Offsets};
+ghost use Rattle.maker_options.specs.Prepared.{Prepared, chosen, Offsets};
 use super::Job;
 use sheet_contents::Row;
 
@@ -38,21 +39,9 @@ pub fn own_count(r: Row, m: usize) -> usize
 // The first row from p on that row r reaches and that gives an option at length m, or n.
 pub fn next(ws: &[u64], r: usize, m: usize, p: usize, n: usize) -> usize
     requires { ⌜ (length (now ws) ≡ 1268) × (r < 256) × (m ≤ 60) × (p ≤ n) × (n ≤ 256) ⌝ }
-    ensures { λ q. ⌜ Next (now (ws .entry)) r m p n q ⌝ }
+    ensures { λ q. ⌜ First (chosen (now (ws .entry)) r m) p n q ⌝ }
 {
-    let mut q = p;
-    while q < n {
-        let x = (ws[4 * r + q / 64] & ws[4 * (256 + m) + q / 64]) >> (q % 64);
-        if x & 1 == 1 {
-            return q;
-        }
-        if x == 0 {
-            q = 64 * (q / 64) + 64;
-        } else {
-            q += 1;
-        }
-    }
-    n
+    workspace::next(ws, r, 256 + m, p, n)
 }
 
 // How many options row r has at length m.

@@ -7,7 +7,7 @@ use mathlib.Core.Bool.{Bool, true, false, true≢false}
 use mathlib.Core.List.{List}
 use lib.ListN.{length, take}
 use Rattle.walk_state.specs.declared.State.{State}
-use Rattle.walk_state.specs.Letters.{First}
+use Rattle.walk_state.specs.Letters.{FirstFrom}
 use Rattle.walk_state.specs.Moves.{downOf, countedOf}
 use Rattle.walk.specs.Counts.{Small, wiped}
 use Rattle.walk.specs.Progress.{Judging, Finished}
@@ -20,7 +20,7 @@ use Rattle.walk.proofs.Known.{knows-down}
 module _ (is : ℕ → Bool) (slot : List ℕ) (budget n : ℕ) (q : State) (m : List ℕ) (h : q .prefix .len ≤ n) (top : n ≤ 60)
     (lt : q .trials < budget) (fine : q .over ≡ false) where
   -- open, and there is a letter
-  pub adv-down : (b : ℕ) → Frame budget q q → 480 ≤ length m → Small slot → q .prefix .len < n → First is 0 b → b < 256
+  pub adv-down : (b : ℕ) → Frame budget q q → 480 ≤ length m → Small slot → q .prefix .len < n → FirstFrom is 0 b → b < 256
       → Advanced is slot budget n true q m (downOf (countedOf q 1) b) (wiped m (8 * q .prefix .len) 8)
   adv-down b i u sm y f g =
       let l = i .letters in
@@ -50,7 +50,7 @@ module _ (is : ℕ → Bool) (slot : List ℕ) (budget n : ℕ) (q : State) (m :
       }
 
   -- open, and there are no letters
-  pub adv-stuck : (b : ℕ) (r : State) (m′ : List ℕ) → q .prefix .len < n → First is 0 b → 256 ≤ b → Climbed is slot budget (countedOf q 1) m r m′ → Advanced is slot budget n true q m r m′
+  pub adv-stuck : (b : ℕ) (r : State) (m′ : List ℕ) → q .prefix .len < n → FirstFrom is 0 b → 256 ≤ b → Climbed is slot budget (countedOf q 1) m r m′ → Advanced is slot budget n true q m r m′
   adv-stuck b r m′ y f g k = climbed true r m′ k (λ opens a e. (stuck-step is opens n (q .prefix .len) (q .prefix .bytes) (q .begun) (q .trials) b (a .0) y e f g, a .1))
 
   -- not open

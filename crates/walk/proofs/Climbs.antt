@@ -8,7 +8,7 @@ use mathlib.Core.List.{List}
 use lib.ListN.{length, getD, set, length-set}
 use lib.Seq.{getD-set-same}
 use Rattle.walk_state.specs.declared.State.{State}
-use Rattle.walk_state.specs.Letters.{First}
+use Rattle.walk_state.specs.Letters.{FirstFrom}
 use Rattle.walk_state.specs.Moves.{nextOf, backOf, countedOf, passedOf, lastOf, sinceOf}
 use Rattle.walk.specs.Counts.{Small, notedAt, seenAt}
 use Rattle.walk.specs.Progress.{Classes, Done, Knows, Finished, Landing}
@@ -42,7 +42,7 @@ module _ (is : ℕ → Bool) (slot : List ℕ) (small : Small slot) (opens : ℕ
       let u = rw z at y in
       rw z (d .0, knows-note is slot small opens n k w s m t h (omega arith) u (λ b x e f. c (getD w k 0) b u x e f) (d .0) (d .1))
 
-  skip-at : (n k : ℕ) (w s m : List ℕ) (t b x : ℕ) → Fin n k w s m t → 0 < k → k ≤ length w → k < length s → First is (getD w (k - 1) 0 + 1) b → b < 256
+  skip-at : (n k : ℕ) (w s m : List ℕ) (t b x : ℕ) → Fin n k w s m t → 0 < k → k ≤ length w → k < length s → FirstFrom is (getD w (k - 1) 0 + 1) b → b < 256
       → 0 < getD slot b 0 → x ≡ getD m (8 * (k - 1) + getD slot b 0) 0 → 0 < x
       → Fin n k (set w (k - 1) b) (set s k t) m (t + x)
   unfolding Fin
@@ -53,7 +53,7 @@ module _ (is : ℕ → Bool) (slot : List ℕ) (small : Small slot) (opens : ℕ
       let e = rw z at v in
       rw z (skip-step is opens n k w s t b x (d .0) h l g y (rw e (d .1 .each k b (omega arith) y u (omega arith))), knows-set is slot small opens n k w m b (d .1))
 
-  next-at : (n k : ℕ) (w s m : List ℕ) (t b : ℕ) → Fin n k w s m t → 0 < k → k ≤ length w → k < length s → First is (getD w (k - 1) 0 + 1) b → b < 256
+  next-at : (n k : ℕ) (w s m : List ℕ) (t b : ℕ) → Fin n k w s m t → 0 < k → k ≤ length w → k < length s → FirstFrom is (getD w (k - 1) 0 + 1) b → b < 256
       → Landing is slot opens n k (set w (k - 1) b) (set s k t) m t
   unfolding Fin
   next-at n zero w s m t b d p h l f y = absurd (omega arith)
@@ -62,7 +62,7 @@ module _ (is : ℕ → Bool) (slot : List ℕ) (small : Small slot) (opens : ℕ
       let g = rw (z, add-one) at f in
       rw z (next-step is opens n k w s t b (d .0) h l g y, knows-set is slot small opens n k w m b (d .1))
 
-  back-at : (n k : ℕ) (w s m : List ℕ) (t b : ℕ) → Fin n k w s m t → 0 < k → First is (getD w (k - 1) 0 + 1) b → 256 ≤ b → getD w (k - 1) 0 < 256
+  back-at : (n k : ℕ) (w s m : List ℕ) (t b : ℕ) → Fin n k w s m t → 0 < k → FirstFrom is (getD w (k - 1) 0 + 1) b → 256 ≤ b → getD w (k - 1) 0 < 256
       → Fin n (k - 1) w s m t
   unfolding Fin
   back-at n zero w s m t b d p f y u = absurd (omega arith)
@@ -98,7 +98,7 @@ module _ (is : ℕ → Bool) (slot : List ℕ) (budget : ℕ) (p : State) (m₀ 
         to = λ opens n c d. note-at is slot (i .small) opens n (q .prefix .len) (q .prefix .bytes) (q .begun) m (q .trials) pos (omega arith) (omega arith) y c (i .to opens n c d);
       }
 
-  module _ (q : State) (m : List ℕ) (i : Climbing is slot budget p m₀ q m) (pos : 0 < q .prefix .len) (b : ℕ) (f : First is (lastOf (q .prefix) + 1) b) where
+  module _ (q : State) (m : List ℕ) (i : Climbing is slot budget p m₀ q m) (pos : 0 < q .prefix .len) (b : ℕ) (f : FirstFrom is (lastOf (q .prefix) + 1) b) where
     module _ (h : b < 256) (x : ℕ) (e : x ≡ seenAt m (q .prefix .len) (getD slot b 0)) (g : 0 < x) where
       -- the next letter's count is known: it and its extensions are done
       skipped : (opens : ℕ → List ℕ → Bool) (n : ℕ) → Classes opens slot → Finished is slot opens n p m₀ → Finished is slot opens n (countedOf (nextOf q b) x) m

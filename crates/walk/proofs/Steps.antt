@@ -9,7 +9,7 @@ use mathlib.Core.List.{List, [], _∷_, _++_}
 use lib.ListN.{length, take, getD, set}
 use lib.Seq.{take-suc-set, take-set-le, getD-set-other, getD-set-same}
 use Rattle.paper.specs.Walk.{Walked, found, none, plus, then, count, tree}
-use Rattle.walk_state.specs.Letters.{First}
+use Rattle.walk_state.specs.Letters.{FirstFrom}
 use Rattle.paper.proofs.Budget.{count-plus, count-then}
 use Rattle.walk.specs.Progress.{kids, Part, Parts, At, Done}
 use Rattle.walk.proofs.Runs.{plus-plus, rising-end, rising-take, rising-from, tree-shut, tree-open}
@@ -39,14 +39,14 @@ module _ (is : ℕ → Bool) (opens : ℕ → List ℕ → Bool) where
           rw z q
 
   -- the children from c on, b the first of them
-  kids-first : (n k : ℕ) (w : List ℕ) (c b : ℕ) → k < length w → First is c b → b < 256
+  kids-first : (n k : ℕ) (w : List ℕ) (c b : ℕ) → k < length w → FirstFrom is c b → b < 256
       → kids is opens n k w c ≡ then (tree is opens n (n - suc k) (take (suc k) (set w k b))) (kids is opens n k w (suc (getD (set w k b) k 0)))
   kids-first n k w c b h f m =
       rw (rising-from is _ 256 c b (f .low) (omega arith) (f .gap), rising-take is _ 256 b m (f .hit m))
       (rw (take-suc-set w k b h, getD-set-same w k b 0 h))
 
   -- to the first child from c on, where so much of the prefix of k bytes is done
-  child : (n k : ℕ) (w s : List ℕ) (c b t : ℕ) → k < length w → suc k < length s → First is c b → b < 256 → Parts is opens n k w s → getD s k 0 ≤ t
+  child : (n k : ℕ) (w s : List ℕ) (c b t : ℕ) → k < length w → suc k < length s → FirstFrom is c b → b < 256 → Parts is opens n k w s → getD s k 0 ≤ t
       → tree is opens n (n - k) (take k w) ≡ plus (t - getD s k 0) (kids is opens n k w c)
       → At is opens n (suc k) (set w k b) (set s (suc k) t) t
   child n k w s c b t h l f m p o e =
@@ -80,7 +80,7 @@ module _ (is : ℕ → Bool) (opens : ℕ → List ℕ → Bool) where
   shut-step n k w s t a e = ends n k w s t 1 a (tree-shut is opens n (n - k) (take k w) e)
 
   -- open: one letter longer
-  pub down-step : (n k : ℕ) (w s : List ℕ) (t b : ℕ) → At is opens n k w s t → k < n → k < length w → suc k < length s → opens n (take k w) ≡ true → First is 0 b → b < 256
+  pub down-step : (n k : ℕ) (w s : List ℕ) (t b : ℕ) → At is opens n k w s t → k < n → k < length w → suc k < length s → opens n (take k w) ≡ true → FirstFrom is 0 b → b < 256
       → At is opens n (suc k) (set w k b) (set s (suc k) (t + 1)) (t + 1)
   down-step n k w s t b a h l m e f g =
       let q = a .mark in
@@ -88,12 +88,12 @@ module _ (is : ℕ → Bool) (opens : ℕ → List ℕ → Bool) where
       child n k w s 0 b (t + 1) l m f g (a .parts) (omega arith) (rw z (tree-open is opens n k (take k w) h e))
 
   -- open, and there are no letters
-  pub stuck-step : (n k : ℕ) (w s : List ℕ) (t b : ℕ) → At is opens n k w s t → k < n → opens n (take k w) ≡ true → First is 0 b → 256 ≤ b → Done is opens n k w s (t + 1)
+  pub stuck-step : (n k : ℕ) (w s : List ℕ) (t b : ℕ) → At is opens n k w s t → k < n → opens n (take k w) ≡ true → FirstFrom is 0 b → 256 ≤ b → Done is opens n k w s (t + 1)
   stuck-step n k w s t b a h e f m =
       ends n k w s t 1 a (tree-open is opens n k (take k w) h e ∙ ap (plus 1) (rising-from is _ 256 0 256 (omega arith) (omega arith) (λ x l g. f .gap x (omega arith) g) ∙ rising-end is _ 256 256 (omega arith)))
 
   -- a child is done: the next
-  pub next-step : (n k : ℕ) (w s : List ℕ) (t b : ℕ) → Done is opens n (suc k) w s t → k < length w → suc k < length s → First is (suc (getD w k 0)) b → b < 256
+  pub next-step : (n k : ℕ) (w s : List ℕ) (t b : ℕ) → Done is opens n (suc k) w s t → k < length w → suc k < length s → FirstFrom is (suc (getD w k 0)) b → b < 256
       → At is opens n (suc k) (set w k b) (set s (suc k) t) t
   next-step n k w s t b d h l f m =
       let q = d .parts k (omega arith) .order in
@@ -101,13 +101,13 @@ module _ (is : ℕ → Bool) (opens : ℕ → List ℕ → Bool) where
       child n k w s (suc (getD w k 0)) b t h l f m (before n k w s (d .parts)) (omega arith) (behind n k w s t d)
 
   -- a child is done, and the next is known to come to none
-  pub skip-step : (n k : ℕ) (w s : List ℕ) (t b x : ℕ) → Done is opens n (suc k) w s t → k < length w → suc k < length s → First is (suc (getD w k 0)) b → b < 256
+  pub skip-step : (n k : ℕ) (w s : List ℕ) (t b x : ℕ) → Done is opens n (suc k) w s t → k < length w → suc k < length s → FirstFrom is (suc (getD w k 0)) b → b < 256
       → tree is opens n (n - suc k) (take k w ++ (b ∷ [])) ≡ none x
       → Done is opens n (suc k) (set w k b) (set s (suc k) t) (t + x)
   skip-step n k w s t b x d h l f m a = ends n (suc k) (set w k b) (set s (suc k) t) t x (next-step n k w s t b d h l f m) (rw (take-suc-set w k b h) a)
 
   -- a child is done, and there is no next: so is the parent
-  pub back-step : (n k : ℕ) (w s : List ℕ) (t b : ℕ) → Done is opens n (suc k) w s t → First is (suc (getD w k 0)) b → 256 ≤ b → getD w k 0 < 256 → Done is opens n k w s t
+  pub back-step : (n k : ℕ) (w s : List ℕ) (t b : ℕ) → Done is opens n (suc k) w s t → FirstFrom is (suc (getD w k 0)) b → 256 ≤ b → getD w k 0 < 256 → Done is opens n k w s t
   back-step n k w s t b d f m y =
       let q = d .parts k (omega arith) .order in
       let r = d .mark in

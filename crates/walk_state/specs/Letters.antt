@@ -1,10 +1,11 @@
 -- A set of letters as an array holds it.
 use mathlib.Core.Path.{_≡_}
-use Prim.Native.Nat.{ℕ, _≤_, _<_}
-use mathlib.Core.Bool.{Bool, true, false, _&&_, _||_}
+use Prim.Native.Nat.{ℕ}
+use mathlib.Core.Bool.{Bool, false, _&&_, _||_}
 use mathlib.Core.List.{List}
 use lib.Dec.{leb}
 use Rattle.workspace.specs.Bits.{bitAt}
+use Rattle.workspace.specs.Scan.{First}
 
 -- b is a letter, its bit of the four words: the only way in which others look into them
 unfoldable pub hasLetter : List ℕ → ℕ → Bool
@@ -19,8 +20,5 @@ abbrev pub Joined : (of : List ℕ) (low high : ℕ) (r : List ℕ) → Type 0
 Joined of low high r = (x : ℕ) → hasLetter r x ≡ ((leb low x && leb x high) || hasLetter of x)
 
 -- b is the first letter at or after c, or 256
-pub record First (is : ℕ → Bool) (c b : ℕ) : Type 0 where
-  pub low : c ≤ b
-  pub high : b ≤ 256
-  pub hit : b < 256 → is b ≡ true
-  pub gap : (x : ℕ) → x < b → c ≤ x → is x ≡ false
+abbrev pub FirstFrom : (is : ℕ → Bool) (c b : ℕ) → Type 0
+FirstFrom is c b = First is c 256 b

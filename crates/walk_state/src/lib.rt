@@ -1,7 +1,7 @@
 // The walk's state: its letters, its prefix by value, and its moves, each handing the state back.
 ghost use mathlib.Core.Path.{_≡_};
 ghost use Prim.Native.Nat.{_+_, _<_, _≤_};
-ghost use Rattle.walk_state.specs.Letters.{hasLetter, NoLetter, Joined, First};
+ghost use Rattle.walk_state.specs.Letters.{hasLetter, NoLetter, Joined, FirstFrom};
 ghost use Rattle.walk_state.specs.Moves.{emptyPrefix, startState, longer, ending, shorter, downOf, nextOf, backOf, countedOf, passedOf, againOf, lastOf, sinceOf, Marks};
 
 // The letters, a bit for each possible one, in four words.
@@ -37,25 +37,13 @@ impl Letters {
         workspace::test(&of, 0, numbers::wide(b))
     }
 
-    // The first letter at or after c, or 256. A word with no letter left is passed over whole.
+    // The first letter at or after c, or 256.
     pub fn first_from(self, c: usize) -> usize
         requires { ⌜ c ≤ 256 ⌝ }
-        ensures { λ r. ⌜ First (hasLetter (self .of)) c r ⌝ }
+        ensures { λ r. ⌜ FirstFrom (hasLetter (self .of)) c r ⌝ }
     {
         let of = self.of;
-        let mut at = c;
-        while at < 256 {
-            let x = of[at / 64] >> (at % 64);
-            if x & 1 == 1 {
-                return at;
-            }
-            if x == 0 {
-                at = 64 * (at / 64) + 64;
-            } else {
-                at += 1;
-            }
-        }
-        at
+        workspace::next(&of, 0, 0, c, 256)
     }
 }
 

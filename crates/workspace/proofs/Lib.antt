@@ -3,3 +3,4 @@ pub mod Words
 pub mod Bits
 pub mod Room
 pub mod Places
+pub mod Scan

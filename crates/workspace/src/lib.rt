@@ -7,6 +7,7 @@ ghost use Rattle.paper.specs.Answers.{words, zeroed};
 ghost use Rattle.workspace.specs.Spans.{spanAt};
 ghost use Rattle.workspace.specs.Bits.{bitAt, setBit, putBit, wiped, copied, joined, noneAt};
 ghost use Rattle.workspace.specs.Room.{Grows};
+ghost use Rattle.workspace.specs.Scan.{inBoth, First};
 
 // The number of the span of m places from place i on.
 pub fn span(i: usize, m: usize) -> usize
@@ -51,6 +52,26 @@ pub fn none(ws: &[u64], s: usize) -> bool
 {
     let i = 4 * s;
     ws[i] | ws[i + 1] | ws[i + 2] | ws[i + 3] == 0
+}
+
+// The first row from p on and below n that the sets at entries a and b both have, or n. Words that have none left are passed over whole.
+pub fn next(ws: &[u64], a: usize, b: usize, p: usize, n: usize) -> usize
+    requires { ⌜ (4 * a + 4 ≤ length (now ws)) × (4 * b + 4 ≤ length (now ws)) × (p ≤ n) × (n ≤ 256) ⌝ }
+    ensures { λ q. ⌜ First (inBoth (now (ws .entry)) a b) p n q ⌝ }
+{
+    let mut q = p;
+    while q < n {
+        let x = (ws[4 * a + q / 64] & ws[4 * b + q / 64]) >> (q % 64);
+        if x & 1 == 1 {
+            return q;
+        }
+        if x == 0 {
+            q = 64 * (q / 64) + 64;
+        } else {
+            q += 1;
+        }
+    }
+    n
 }
 
 // No row left in span s.

@@ -57,7 +57,7 @@ loop-holds c =
     let p = c .before .before .before .before .before .pre in
     let next = c .next .ensures in
     let none = met-first (p .0) (a .t .m) (a .t .r) (omega arith) (p .1) (p .2) _ next in
-    (next .most, next .here, put-same (ap allBytes (sym none)) (options-none (a .t .o) (a .list .now)), search needs)
+    (next .high, next .hit, put-same (ap allBytes (sym none)) (options-none (a .t .o) (a .list .now)), search needs)
 
 row-at-requires : tie.Need-row-at-requires Inv-loop μ-loop
 row-at-requires c κs =
@@ -92,7 +92,7 @@ loop-again c =
     let next = c .next2 .ensures in
     let e = met-turn (p .0) (a .t .m) (a .t .r) (omega arith) (p .1) (p .2) (l .q) _ _ x (l .inv .1 x) (c .before .before .before .before .before .row-at .ensures) next in
     let before = fromBelow (grammarOf (a .s .now)) (a .t .m) (a .t .r) (l .q) in
-    (next .most, next .here, put-same (ap allBytes (sym e)) (options-more before _ (l .inv .2) (c .before .before .before .put-own .ensures)), search needs)
+    (next .high, next .hit, put-same (ap allBytes (sym e)) (options-more before _ (l .inv .2) (c .before .before .before .put-own .ensures)), search needs)
 
 returns-3 : tie.Need-returns-3 Inv-loop μ-loop
 returns-3 c =
@@ -118,7 +118,7 @@ put-options-spec =
     put-own-requires
     add-next
     next-requires-2
-    (λ c. omega (arith, c .next2 .ensures .from, c .next2 .ensures .most))
+    (λ c. omega (arith, c .next2 .ensures .low, c .next2 .ensures .high))
     loop-again
     (λ c. search needs)
     returns-3)

@@ -2,7 +2,7 @@
 use Prim.Native.Nat.{_<_, _+_}
 use native.Mathlib.Omega.{arith}
 use borrow.Author.Needs.{needs}
-use Rattle.walk_state.specs.Letters.{hasLetter, First}
+use Rattle.walk_state.specs.Letters.{hasLetter, FirstFrom}
 use Rattle.walk_state.specs.Moves.{lastOf}
 use Rattle.walk.proofs.Frames.{frame-start}
 use Rattle.walk.proofs.Climbs.{Climbing, climb-start, climb-note, climb-skip, climb-over, climb-next, climb-back, climb-end, toGo, skip-less, back-less}
@@ -16,7 +16,7 @@ Inv-loop letters slot budget counts₀ q₀ counts q = Climbing (hasLetter (lett
 abbrev μ-loop : tie.MeasureT-loop
 μ-loop letters slot budget counts₀ q₀ counts q = toGo q
 
-first : (c : tie.After-first-from Inv-loop μ-loop) → First (hasLetter (c .before .before .before .before .before .before .args .letters .of)) (lastOf (c .before .before .before .before .loop .q .prefix) + 1) (c .first-from .result)
+first : (c : tie.After-first-from Inv-loop μ-loop) → FirstFrom (hasLetter (c .before .before .before .before .before .before .args .letters .of)) (lastOf (c .before .before .before .before .loop .q .prefix) + 1) (c .first-from .result)
 first c = rw (c .before .last .ensures .0) at (c .first-from .ensures)
 
 low : (c : tie.After-first-from Inv-loop μ-loop) → lastOf (c .before .before .before .before .loop .q .prefix) < 256

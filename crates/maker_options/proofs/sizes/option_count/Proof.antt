@@ -43,7 +43,7 @@ loop-holds : tie.Need-loop-holds Inv-loop μ-loop
 loop-holds c =
     let a = c .before .before .before .before .args in
     let p = c .before .before .before .before .pre in
-    (c .next .ensures .most, c .next .ensures .here, sym (ap length (met-first (p .0) (a .m) (a .r) (omega arith) (p .1) (p .2) _ (c .next .ensures))))
+    (c .next .ensures .high, c .next .ensures .hit, sym (ap length (met-first (p .0) (a .m) (a .r) (omega arith) (p .1) (p .2) _ (c .next .ensures))))
 
 row-at-requires : tie.Need-row-at-requires Inv-loop μ-loop
 row-at-requires c κs =
@@ -78,8 +78,8 @@ loop-again c =
     let l = c .before .before .before .before .before .loop in
     let x = c .before .before .before .if3 .taken in
     let next = c .next2 .ensures in (
-      next .most,
-      next .here,
+      next .high,
+      next .hit,
       omega (
         arith,
         met-length (p .0) (a .m) (a .r) (omega arith) (p .1) (p .2) (l .q) _ _ x (l .inv .1 x) (c .before .before .row-at .ensures) next,
@@ -110,6 +110,6 @@ option-count-spec =
     add-c
     add-next
     next-requires-2
-    (λ c. omega (arith, c .next2 .ensures .from, c .next2 .ensures .most))
+    (λ c. omega (arith, c .next2 .ensures .low, c .next2 .ensures .high))
     loop-again
     returns-3)
