@@ -63,6 +63,15 @@ module _ (g : Grammar) (f : Row → Bool) where
   pub among-turn : (sp n : ℕ) (old now next : List ℕ) → Adds sp (among g f n) old now → (on : Bool) → on ≡ f (row g n) → Adds sp (only n on) now next → Adds sp (among g f (n + 1)) old next
   among-turn sp n old now next x on e y = adds-then sp (among g f n) (only n on) (among g f (n + 1)) old now next x y (λ r h. ap (λ b. among g f n r || only n b r) e ∙ among-more n r)
 
+  -- none of the first n passes
+  pub among-no : (n : ℕ) → ((r : ℕ) → r < n → f (row g r) ≡ false) → (r : ℕ) → among g f n r ≡ false
+  unfolding among
+  among-no n h r = go (decLt r n)
+    where
+      go : Dec (r < n) → (ltb r n && f (row g r)) ≡ false
+      go (yes l) = rw (lt-ltb r n l) (h r l)
+      go (no l) = rw (le-ltb r n (omega arith))
+
   -- every row of the table has had its turn
   pub among-all : (r : ℕ) → f noRow ≡ false → among g f (length (g .rows)) r ≡ passing g f r
   unfolding among passing row
@@ -124,6 +133,19 @@ module _ (S : Sheet) (places : List ℕ) (i : ℕ) (h : i < length places) where
   pub letter-ranges : (lay : List ℕ) → Ground S lay → 256 ≤ getD places i 0 → (r : ℕ) → r < 256 → bitAt lay 257 r ≡ passing (S .grammar) (ranged (pattern S (placesIn places)) 1 i) r
   unfolding passing
   letter-ranges lay ground l r m = ground .ranges r m ∙ unknown-range l (row (S .grammar) r)
+
+-- a range that holds a letter x holds some letter
+pub letter-held : (S : Sheet) (x : ℕ) → letter S x ≡ true → (y : Row) → holding x y ≡ true → someLetter S y ≡ true
+unfolding holding holdsByte someLetter
+letter-held S x is Empty e = e
+letter-held S x is (Range lo hi) e =
+    let a : lo ≤ x = leb-true lo x (and-left (leb lo x) _ e) in
+    let b : x ≤ hi = leb-true x hi (and-right (leb lo x) _ e) in
+    any-intro (suc hi - lo) (λ k. letter S (lo + k)) (x - lo) (omega arith) (rw (add-sub-of-le a) is)
+letter-held S x is (Text off len) e = e
+letter-held S x is (Alt a b) e = e
+letter-held S x is (Seq a b) e = e
+letter-held S x is (Star a) e = e
 
 -- a range takes one byte
 pub long-range : (g : Grammar) (pat : Pattern) (m i r : ℕ) → m ≢ 1 → passing g (ranged pat m i) r ≡ false

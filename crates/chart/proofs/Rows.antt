@@ -1,11 +1,12 @@
 -- What the rows of an accepted sheet give to a cell.
 -- Assumes nothing.
-use Prim.Native.Nat.{ℕ, _+_, _-_, _≤_, _<_}
+use Prim.Native.Nat.{ℕ, _+_, _*_, _-_, _/_, _%_, _^_, _≤_, _<_}
 use mathlib.Core.Path.{_≡_, refl, sym, _∙_}
 use mathlib.Core.Bool.{Bool, true, false, true≢false}
 use mathlib.Core.Logic.{_⊎_, inl, inr}
 use mathlib.Core.List.{List}
 use native.Mathlib.Omega.{arith}
+use lib.Bits.{bitAnd}
 use lib.Dec.{eqb}
 use lib.ListN.{length, getD, take, drop, length-drop}
 use lib.Seq.{length-take-le}
@@ -15,15 +16,23 @@ use Rattle.paper.specs.Trailer.{countOf}
 use Rattle.paper.specs.Rows.{row, stretch}
 use Rattle.paper.specs.Decide.{Pattern, fits}
 use Rattle.paper.specs.Sheet.{sheetOf, grammarOf, textOf}
-use Rattle.paper.proofs.Tests.{all-elim, true-or-false}
+use Rattle.paper.proofs.Tests.{all-elim, and-left, and-right, true-or-false}
 use Rattle.sheet.specs.Good.{Good}
 use Rattle.sheet.proofs.Contents.{text-length}
-use Rattle.workspace.specs.Bits.{bit, bitAt}
+use Rattle.workspace.specs.Bits.{bit, bitAt, noneAt}
+use Rattle.workspace.proofs.Bits.{test-is, none-bit}
 use Rattle.groundwork.specs.Ground.{Ground, lengthsAt}
-use Rattle.chart.specs.Cells.{allowed, holding, ranged, fitting, among, passing, canHold, canHoldAll}
-use Rattle.chart.proofs.Owning.{among-all, no-holds, known-range, letter-ranges, text-held, no-text}
+use Rattle.chart.specs.Cells.{allowed, holding, noRange, ranged, fitting, among, passing, canHold, canHoldAll}
+use Rattle.chart.proofs.Owning.{among-no, among-all, letter-held, no-holds, known-range, letter-ranges, text-held, no-text}
 
--- ---- the loop over a part of the text
+-- ---- a part of the text
+
+-- the bit of byte k in its word
+pub text-word : (lay : List ℕ) (k : ℕ) → eqb (bitAnd (getD lay (1032 + k / 64) 0 / 2 ^ (k % 64)) 1) 1 ≡ bitAt lay (258 + k / 256) (k % 256)
+text-word lay k =
+    let i : 1032 + k / 64 ≡ 4 * (258 + k / 256) + k % 256 / 64 = omega arith in
+    let j : k % 64 ≡ k % 256 % 64 = omega arith in
+    rw (i, j) (test-is lay (258 + k / 256) (k % 256) (omega arith))
 
 module _ (lay places : List ℕ) (i off : ℕ) (part : List ℕ) where
   pub part-fails : (k : ℕ) → k < length part → canHold lay (getD places (i + k) 0) (off + k) (getD part k 0) ≡ false → canHoldAll lay places i off part ≡ false
@@ -54,6 +63,17 @@ module _ (s places : List ℕ) (n : ℕ) (all : n ≡ length (grammarOf s .rows)
   pub texts-passed : (pat : Pattern) (m i r : ℕ) → among (grammarOf s) (fitting (textOf s) pat m i) n r ≡ passing (grammarOf s) (fitting (textOf s) pat m i) r
   unfolding fitting
   texts-passed pat m i r = rw all (among-all (grammarOf s) (fitting (textOf s) pat m i) r refl)
+
+-- no range holds a letter, so none holds this one
+pub no-holding : (s lay : List ℕ) → Ground (sheetOf s) lay → (x n : ℕ) → noRange s lay x ≡ true → n ≤ 256 → (r : ℕ) → among (grammarOf s) (holding x) n r ≡ false
+unfolding noRange sheetOf
+no-holding s lay ground x n e few = among-no (grammarOf s) (holding x) n (λ r l. go r l (true-or-false (holding x (row (grammarOf s) r))))
+  where
+    go : (r : ℕ) → r < n → (holding x (row (grammarOf s) r) ≡ true) ⊎ (holding x (row (grammarOf s) r) ≡ false) → holding x (row (grammarOf s) r) ≡ false
+    go r l (inl y) =
+        let held = letter-held (sheetOf s) x (and-right (noneAt lay 257) _ e) (row (grammarOf s) r) y in
+        absurd (true≢false (sym held ∙ sym (ground .ranges r (omega arith)) ∙ none-bit lay 257 (and-left (noneAt lay 257) _ e) r))
+    go r l (inr y) = y
 
 module _ (s lay places : List ℕ) (ground : Ground (sheetOf s) lay) where
   -- a part of the text can be held where its bytes fit

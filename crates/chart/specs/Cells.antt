@@ -8,14 +8,14 @@ use lib.ListN.{length, getD}
 use Rattle.paper.specs.Tests.{allBelow}
 use Rattle.paper.specs.Rows.{Row, Empty, Range, Text, Alt, Seq, Star, Grammar, row, stretch}
 use Rattle.paper.specs.Decide.{Pattern, Test, fits, someIn, split, accepts}
-use Rattle.paper.specs.Sheet.{sheetOf, grammarOf}
+use Rattle.paper.specs.Sheet.{sheetOf, grammarOf, letter}
 use Rattle.paper.specs.Opens.{pattern}
 use Rattle.sheet_trailer.specs.declared.Table.{Table}
 use Rattle.sheet_trailer.specs.Tables.{TableOf}
 use Rattle.sheet_contents.specs.Ranges.{holdsByte}
 use Rattle.workspace.specs.Within.{Within}
 use Rattle.workspace.specs.Spans.{spanAt}
-use Rattle.workspace.specs.Bits.{bitAt}
+use Rattle.workspace.specs.Bits.{bitAt, noneAt}
 use Rattle.workspace.specs.Places.{placesIn}
 use Rattle.groundwork.specs.Lent.{Lent}
 use Rattle.chart_cells.specs.Steps.{Kept}
@@ -33,6 +33,10 @@ allowed s places = pattern (sheetOf s) (placesIn places)
 -- a range that holds the byte x
 unfoldable pub holding : ℕ → Row → Bool
 holding x r = holdsByte r x
+
+-- the byte x is a letter, and no range holds one
+unfoldable pub noRange : (s lay : List ℕ) → ℕ → Bool
+noRange s lay x = noneAt lay 257 && letter (sheetOf s) x
 
 -- a range, of one byte, with a byte that is allowed at place i
 unfoldable pub ranged : Pattern → (m i : ℕ) → Row → Bool

@@ -12,7 +12,7 @@ ghost use Rattle.sheet_contents.specs.Ranges.{holdsByte};
 ghost use Rattle.sheet.specs.Good.{Good};
 ghost use Rattle.groundwork.specs.Ground.{Ground, lengthsAt};
 ghost use Rattle.chart_cells.specs.Steps.{Adds};
-ghost use Rattle.chart.specs.Cells.{Charting, allowed, holding, ranged, fitting, among, passing, canHold, canHoldAll};
+ghost use Rattle.chart.specs.Cells.{Charting, allowed, holding, noRange, ranged, fitting, among, passing, canHold, canHoldAll};
 use sheet_contents::Row;
 use sheet_trailer::Table;
 
@@ -30,11 +30,25 @@ fn holds(r: Row, x: usize) -> bool
     }
 }
 
+// Whether the byte x is a letter and no range holds one: then none holds x.
+fn no_range(s: &[u8], lay: &[u64], x: usize) -> bool
+    requires { ⌜ Good (now s) × (1048 ≤ length (now lay)) × (x < 256) ⌝ }
+    ensures { λ r. ⌜ r ≡ noRange (now (s .entry)) (now (lay .entry)) x ⌝ }
+{
+    if workspace::none(lay, 257) {
+        return sheet::is_letter(s, x as u8);
+    }
+    false
+}
+
 // The ranges that hold the byte x, into span sp.
-fn ranges(s: &[u8], rows: Table, x: usize, work: &mut [u64], sp: usize)
-    requires { ⌜ Good (now s) × TableOf (now s) 2 rows × (sp < 1891) × (7564 ≤ length (now work)) ⌝ }
+fn ranges(s: &[u8], rows: Table, lay: &[u64], x: usize, work: &mut [u64], sp: usize)
+    requires { ⌜ Good (now s) × TableOf (now s) 2 rows × Ground (sheetOf (now s)) (now lay) × (x < 256) × (sp < 1891) × (7564 ≤ length (now work)) ⌝ }
     ensures { λ _. ⌜ Adds sp (among (grammarOf (now (s .entry))) (holding x) (rows .count)) (now (work .entry)) (now (work .exit)) ⌝ }
 {
+    if no_range(s, lay, x) {
+        return;
+    }
     let mut q = 0;
     while q < rows.count {
         let on = holds(sheet::row_at(s, rows, q), x);
@@ -62,7 +76,7 @@ pub fn singles(
     }
     let x = places[i] as usize;
     if x < 256 {
-        ranges(s, rows, x, work, sp);
+        ranges(s, rows, lay, x, work, sp);
         return;
     }
     workspace::join(work, sp, lay, 257);
@@ -76,7 +90,7 @@ fn can_hold(lay: &[u64], x: usize, k: usize, b: usize) -> bool
     if x < 256 {
         return b == x;
     }
-    workspace::test(lay, 258 + k / 256, k % 256)
+    (lay[1032 + k / 64] >> (k % 64)) & 1 == 1
 }
 
 // Whether the places from i on can hold a part of the sheet's text, which stands at `off` in it.
