@@ -82,13 +82,20 @@ module _ (lay : List ℕ) (left right : ℕ) where
 
 -- ---- the splits of a span
 
--- the next left span, and the right spans side by side
-pub left-next : (i k : ℕ) → spanAt i k + (i + (k + 1)) ≡ spanAt i (k + 1)
+-- the left span that ends at e, and the next one; the right spans side by side
+pub left-next : (i e : ℕ) → i ≤ e → spanAt i (e - i) + (e + 1) ≡ spanAt i (e + 1 - i)
 unfolding spanAt tri
-left-next i k = rw (add-one k) (go (i + suc k) (omega arith))
+left-next i e h = rw (ends, next) (omega arith)
   where
-    go : (e : ℕ) → e ≡ suc (i + k) → tri (i + k) + i + e ≡ tri e + i
-    go e p = rw p (omega arith)
+    ends : i + (e - i) ≡ e
+    ends = omega arith
+
+    next : i + (e + 1 - i) ≡ suc e
+    next = omega arith
+
+pub span-from : (i m : ℕ) → i ≤ spanAt i m
+unfolding spanAt
+span-from i m = omega arith
 
 pub right-is : (i m k : ℕ) → k ≤ m → spanAt i m + k ≡ spanAt (i + k) (m - k)
 unfolding spanAt
@@ -128,14 +135,17 @@ module _ (lay : List ℕ) (i m : ℕ) where
           paired-kept lay (spanAt i (suc j)) (spanAt i m + suc j) (spanAt i m) old now (x .kept) (left-apart i m (suc j) l) (right-apart i m (suc j) h) (getD lay countAt 0) r
           ∙ ap (λ s. paired lay old (spanAt i (suc j)) s (getD lay countAt 0) r) (right-is i m (suc j) (omega arith))
 
-  pub split-turn : (sp left k : ℕ) (old now next : List ℕ) → sp ≡ spanAt i m → left ≡ spanAt i k → 0 < k → k < m → Adds sp (parted lay old i m (k - 1)) old now
-      → Adds sp (paired lay now left (sp + k) (getD lay countAt 0)) now next → Adds sp (parted lay old i m (k + 1 - 1)) old next
-  split-turn sp left k old now next p q h l x y =
-      subst (λ s. Adds s (parted lay old i m (k + 1 - 1)) old next) (sym p)
-      (turn-at k old now next h l
-      (subst (λ s. Adds s (parted lay old i m (k - 1)) old now) p x)
-      (subst (λ s. Adds s (paired lay now (spanAt i k) (s + k) (getD lay countAt 0)) now next) p
-      (subst (λ t. Adds sp (paired lay now t (sp + k) (getD lay countAt 0)) now next) q y)))
+  pub split-turn : (sp left right e : ℕ) (old now next : List ℕ) → sp ≡ spanAt i m → left ≡ spanAt i (e - i) → right ≡ sp + (e - i) → i < e → e < i + m
+      → Adds sp (parted lay old i m (e - i - 1)) old now → Adds sp (paired lay now left right (getD lay countAt 0)) now next → Adds sp (parted lay old i m (e + 1 - i - 1)) old next
+  split-turn sp left right e old now next p q t h l x y =
+      let n : e - i + 1 - 1 ≡ e + 1 - i - 1 = omega arith in
+      subst (λ s. Adds s (parted lay old i m (e + 1 - i - 1)) old next) (sym p)
+      (rw (sym n)
+      (turn-at (e - i) old now next (omega arith) (omega arith)
+      (subst (λ s. Adds s (parted lay old i m (e - i - 1)) old now) p x)
+      (subst (λ s. Adds s (paired lay now (spanAt i (e - i)) (s + (e - i)) (getD lay countAt 0)) now next) p
+      (subst (λ v. Adds sp (paired lay now (spanAt i (e - i)) v (getD lay countAt 0)) now next) t
+      (subst (λ u. Adds sp (paired lay now u right (getD lay countAt 0)) now next) q y)))))
 
   -- no pairs: no splits
   pub no-pairs : (sp : ℕ) (ws : List ℕ) → getD lay countAt 0 ≡ 0 → (n : ℕ) → Adds sp (parted lay ws i m n) ws ws

@@ -55,7 +55,8 @@ fn split(lay: &[u64], work: &mut [u64], left: usize, right: usize, sp: usize)
     pairs(lay, work, left, right, sp);
 }
 
-// The rows that a pair splits at 1 to m - 1 places, into the span of the m places from i on. The right spans lie side by side after it.
+// The rows that a pair splits at 1 to m - 1 places, into the span of the m places from i on. Where a left span ends, at e, the right one begins;
+// the right spans lie side by side after the whole one.
 pub fn splits(lay: &[u64], work: &mut [u64], i: usize, m: usize, sp: usize)
     requires { ⌜ Pairs (now lay) × (i + m ≤ 60) × (sp ≡ spanAt i m) × (7564 ≤ length (now work)) ⌝ }
     ensures { λ _. ⌜ Adds sp (parted (now (lay .entry)) (now (work .entry)) i m (m - 1)) (now (work .entry)) (now (work .exit)) ⌝ }
@@ -66,12 +67,14 @@ pub fn splits(lay: &[u64], work: &mut [u64], i: usize, m: usize, sp: usize)
     if m < 2 {
         return;
     }
+    let base = sp - i;
+    let end = i + m;
     let mut left = workspace::span(i, 1);
-    let mut k = 1;
-    while k < m {
-        split(lay, work, left, sp + k, sp);
-        k += 1;
-        left += i + k;
+    let mut e = i + 1;
+    while e < end {
+        split(lay, work, left, base + e, sp);
+        e += 1;
+        left += e;
     }
 }
 
