@@ -90,6 +90,7 @@ fn can_hold(lay: &[u64], x: usize, k: usize, b: usize) -> bool
     if x < 256 {
         return b == x;
     }
+    // Entries 258 to 261 are 16 words side by side, and k the bit.
     (lay[1032 + k / 64] >> (k % 64)) & 1 == 1
 }
 

@@ -107,7 +107,7 @@ right-is i m k h = rw (same h) (omega arith)
 pub left-apart : (i m k : ℕ) → k < m → spanAt i k ≢ spanAt i m
 left-apart i m k h e = let z = span-inj i k i m e in omega (arith, z .1)
 
-pub right-apart : (i m k : ℕ) → 0 < k → spanAt i m + k ≢ spanAt i m
+right-apart : (i m k : ℕ) → 0 < k → spanAt i m + k ≢ spanAt i m
 right-apart i m k h e = omega arith
 
 module _ (lay : List ℕ) (i m : ℕ) where
