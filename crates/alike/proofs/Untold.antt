@@ -13,9 +13,9 @@ use Rattle.paper.specs.Tests.{anyBelow, allBelow, anyOf, allOf, Every}
 use Rattle.paper.specs.Rows.{Row, Empty, Range, Text, Alt, Seq, Star, row, stretch}
 use Rattle.paper.specs.Decide.{reaches, fits, someIn, Test, ownRow, level, upTo, accepts}
 use Rattle.paper.specs.Terms.{Place, Known, Unknown}
-use Rattle.paper.specs.Sheet.{Sheet, Claim, Derived, Contains, Equals, Assertion, secondRun, inside}
+use Rattle.paper.specs.Sheet.{Sheet, Claim, Derived, Contains, Equals, ContainsTerm, Assertion, secondRun, inside}
 use Rattle.paper.specs.Open.{termOn}
-use Rattle.paper.specs.Opens.{allows, pattern, meet, canHold, canFail, can, possible, opensOn, opens}
+use Rattle.paper.specs.Opens.{allows, pattern, meet, meetFrom, canHold, canFail, can, possible, opensOn, opens}
 use Rattle.paper.proofs.Sound.{SoundClaim}
 use Rattle.paper.proofs.Tests.{and-intro, and-left, and-right, same-test, any-intro, any-elim, any-of-cons, all-of-nil, all-of-cons, eqb-same, same-eqb}
 use Rattle.walk.specs.Progress.{Alike}
@@ -117,14 +117,18 @@ module _ (s : Sheet) (b c : ℕ) (u : Untold s b c) (k : Inside s) where
   abbrev Apart : (T U : List Place) → Type 0
   Apart T U = Every (Still b c) T ⊎ Every (Still b c) U
 
-  meets-same : {T T′ U U′ : List Place} → Swapped b c T T′ → Swapped b c U U′ → Apart T U → (i : ℕ)
-      → meet s (getD T i Unknown) (getD U i Unknown) ≡ meet s (getD T′ i Unknown) (getD U′ i Unknown)
-  meets-same {T} {T′} {U} {U′} h g (inl w) i =
+  meets-same : {T T′ U U′ : List Place} → Swapped b c T T′ → Swapped b c U U′ → Apart T U → (i j : ℕ)
+      → meet s (getD T i Unknown) (getD U j Unknown) ≡ meet s (getD T′ i Unknown) (getD U′ j Unknown)
+  meets-same {T} {T′} {U} {U′} h g (inl w) i j =
       let x = still-at b c T w i in
-      rw (← still-one b c x (swapped-at b c h i Unknown)) (meet-right (swapped-at b c g i Unknown) x)
-  meets-same {T} {T′} {U} {U′} h g (inr w) i =
-      let x = still-at b c U w i in
-      rw (← still-one b c x (swapped-at b c g i Unknown)) (meet-left (swapped-at b c h i Unknown) x)
+      rw (← still-one b c x (swapped-at b c h i Unknown)) (meet-right (swapped-at b c g j Unknown) x)
+  meets-same {T} {T′} {U} {U′} h g (inr w) i j =
+      let x = still-at b c U w j in
+      rw (← still-one b c x (swapped-at b c g j Unknown)) (meet-left (swapped-at b c h i Unknown) x)
+
+  from-same : {T T′ U U′ : List Place} → Swapped b c T T′ → Swapped b c U U′ → Apart T U → (i : ℕ) → meetFrom s T i U ≡ meetFrom s T′ i U′
+  unfolding meetFrom
+  from-same {T} {T′} {U} {U′} h g a i = rw (swapped-length b c g) (ap (allBelow (length U′)) (fun-ext (λ j. meets-same h g a (i + j) j)))
 
   hold-same : (l : Claim) → SoundClaim (length (s .grammar .text)) (length (s .grammar .rows)) (length (s .parts)) l
       → {T T′ U U′ : List Place} → Swapped b c T T′ → Swapped b c U U′ → Apart T U → canHold s l T U ≡ canHold s l T′ U′
@@ -132,8 +136,9 @@ module _ (s : Sheet) (b c : ℕ) (u : Untold s b c) (k : Inside s) where
   hold-same (Derived r) j {T} {T′} h g a = rw (swapped-length b c h, accepts-same h (length T′) 0 r)
   hold-same (Contains x y) j {T} {T′} h g a = rw (swapped-length b c h) (ap (anyBelow (suc (length T′) - y)) (fun-ext (text-same h x y j)))
   hold-same (Equals x y) j {T} {T′} {U} {U′} h g a =
-      rw (swapped-length b c h, swapped-length b c g)
-      (ap (λ (z : Bool). eqb (length T′) (length U′) && z) (ap (allBelow (length T′)) (fun-ext (meets-same h g a))))
+      rw (swapped-length b c h, swapped-length b c g, from-same h g a 0)
+  hold-same (ContainsTerm x y) j {T} {T′} {U} {U′} h g a =
+      rw (swapped-length b c h, swapped-length b c g) (ap (anyBelow (suc (length T′) - length U′)) (fun-ext (from-same h g a)))
 
   -- ---- an assertion, and each
 

@@ -1,17 +1,16 @@
 -- A constant over a term's places as the code has them.
 use Prim.Native.Nat.{ℕ, suc, _+_, _-_, _<_, _≤_}
-use mathlib.Core.Path.{_≡_, refl, sym, ap, subst, _∙_}
-use mathlib.Core.Bool.{Bool, true, false, true≢false}
+use mathlib.Core.Path.{_≡_, sym, ap, subst}
+use mathlib.Core.Bool.{Bool, true, false}
 use mathlib.Core.List.{List}
 use native.Mathlib.Omega.{arith}
 use lib.ListN.{length, take, drop}
-use Rattle.paper.specs.Tests.{anyBelow}
 use Rattle.paper.specs.Rows.{stretch}
 use Rattle.paper.specs.Terms.{Place}
 use Rattle.paper.specs.Sheet.{Sheet, Contains, sheetOf, textOf}
 use Rattle.paper.specs.Decide.{fits}
 use Rattle.paper.specs.Opens.{pattern, canHold}
-use Rattle.paper.proofs.Tests.{any-intro, any-elim}
+use Rattle.paper.proofs.Tests.{any-intro, any-nowhere}
 use Rattle.sheet.proofs.Contents.{text-is}
 use Rattle.workspace.specs.Places.{placesIn}
 use Rattle.groundwork.specs.Ground.{Ground}
@@ -32,14 +31,9 @@ module _ (S : Sheet) (places : List ℕ) (a b : ℕ) where
 
   pub nowhere : (i : ℕ) → ((j : ℕ) → j < i → stands j ≡ false) → length places < i + b → (u : List Place) → false ≡ canHold S (Contains a b) (placesIn places) u
   unfolding canHold
-  nowhere i h l u = sym (go (anyBelow (suc (length (placesIn places)) - b) stands) refl)
-    where
-      go : (x : Bool) → anyBelow (suc (length (placesIn places)) - b) stands ≡ x → x ≡ false
-      go false e = refl
-      go true e =
-          let w = any-elim (suc (length (placesIn places)) - b) stands e in
-          let n = places-length places in
-          absurd (true≢false (sym (w .2) ∙ h (w .0) (omega (arith, w .1))))
+  nowhere i h l u =
+      let n = places-length places in
+      sym (any-nowhere (suc (length (placesIn places)) - b) stands (λ j k. h j (omega arith)))
 
 -- the code's comparison of a stretch is the pattern's
 pub held-here : (s lay places : List ℕ) → Ground (sheetOf s) lay → (i a b : ℕ) → a + b ≤ length (textOf s) → i + b ≤ length places

@@ -10,7 +10,7 @@ use lib.Dec.{eqb}
 use lib.ListN.{length, take}
 use lib.Seq.{length-take-le}
 use Rattle.paper.specs.Terms.{Place}
-use Rattle.paper.specs.Sheet.{Claim, Derived, Contains, Equals, sheetOf}
+use Rattle.paper.specs.Sheet.{Claim, Derived, Contains, Equals, ContainsTerm, sheetOf}
 use Rattle.paper.specs.Open.{termOn}
 use Rattle.paper.specs.Opens.{canHold}
 use Rattle.paper.proofs.Tests.{and-left, and-right}
@@ -82,3 +82,4 @@ module _ (s : List ℕ) (r : Run) (T : List Place) (h : Held) (old : List ℕ) w
   asked-left (Derived q) new l after is = record { within = l .within; held = inr (is, l .leaves) }
   asked-left (Contains a b) new l after is = record { within = l .within; held = inl (is, l .leaves) }
   asked-left (Equals a b) new l after is = record { within = l .within; held = inl (is, l .leaves) }
+  asked-left (ContainsTerm a b) new l after is = record { within = l .within; held = inl (is, l .leaves) }

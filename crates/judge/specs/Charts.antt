@@ -7,7 +7,7 @@ use mathlib.Core.List.{List}
 use lib.Dec.{eqb}
 use lib.ListN.{length}
 use Rattle.paper.specs.Terms.{Place}
-use Rattle.paper.specs.Sheet.{Claim, Derived, Contains, Equals, sheetOf, grammarOf}
+use Rattle.paper.specs.Sheet.{Claim, Derived, Contains, Equals, ContainsTerm, sheetOf, grammarOf}
 use Rattle.paper.specs.Decide.{accepts}
 use Rattle.paper.specs.Open.{termOn}
 use Rattle.paper.specs.Opens.{pattern}
@@ -39,12 +39,14 @@ unfoldable pub afterOf : Held → Claim → Run → Held
 afterOf h (Derived q) r = heldOf r
 afterOf h (Contains a b) r = h
 afterOf h (Equals a b) r = h
+afterOf h (ContainsTerm a b) r = h
 
 -- how looking at a claim over T leaves the workspace: a derivation with the chart of T, another claim as it was
 abbrev pub Leaves : List ℕ → Claim → List Place → (old new : List ℕ) → Type 0
 Leaves s (Derived q) T old new = Charts s T new
 Leaves s (Contains a b) T old new = new ≡ old
 Leaves s (Equals a b) T old new = new ≡ old
+Leaves s (ContainsTerm a b) T old new = new ≡ old
 
 pub record Left (s : List ℕ) (c : Claim) (T : List Place) (old new : List ℕ) : Type 0 where
   pub within : Within old new

@@ -102,5 +102,6 @@ pub fn can_hold(
         Claim::Derived(row) => derive_from(s, row, &p.of, p.len, have, lay, work),
         Claim::Contains(a, b) => contain_from(s, a, b, &p.of, p.len, lay),
         Claim::Equals(_, _) => terms::meets::equal(s, p, q),
+        Claim::ContainsTerm(_, _) => terms::meets::contains(s, p, q),
     }
 }

@@ -45,5 +45,6 @@ pub fn after(held: Held, a: Assertion) -> Held
         Claim::Derived(_) => Held { any: true, run },
         Claim::Contains(_, _) => held,
         Claim::Equals(_, _) => held,
+        Claim::ContainsTerm(_, _) => held,
     }
 }

@@ -1,7 +1,7 @@
--- Laws of "the same": reflexive, of equal lengths, in parts, place by place; and plain equality.
+-- Laws of "the same": reflexive, symmetric, of equal lengths, in parts, place by place; and plain equality.
 -- Assumes nothing.
 use Prim.Native.Nat.{ℕ, zero, suc, _<_}
-use mathlib.Core.Path.{_≡_, refl, ap}
+use mathlib.Core.Path.{_≡_, refl, sym, ap}
 use mathlib.Core.Bool.{true}
 use mathlib.Core.List.{List, [], _∷_, _++_}
 use native.Mathlib.Omega.{arith}
@@ -13,9 +13,18 @@ use Rattle.paper.proofs.Tests.{eqb-same, same-eqb}
 pub byte-refl : (b : ℕ) → sameByte b b ≡ true
 byte-refl b = same-eqb b b refl
 
+pub byte-sym : (b c : ℕ) → sameByte b c ≡ true → sameByte c b ≡ true
+byte-sym b c h = same-eqb c b (sym (eqb-same b c h))
+
 pub same-refl : (w : List ℕ) → Same w w
 same-refl [] = tt
 same-refl (b ∷ w) = (byte-refl b, same-refl w)
+
+pub same-sym : (u w : List ℕ) → Same u w → Same w u
+same-sym [] [] h = tt
+same-sym [] (c ∷ w) h = absurd h
+same-sym (b ∷ u) [] h = absurd h
+same-sym (b ∷ u) (c ∷ w) h = (byte-sym b c (h .0), same-sym u w (h .1))
 
 pub same-length : (u w : List ℕ) → Same u w → length u ≡ length w
 same-length [] [] h = refl

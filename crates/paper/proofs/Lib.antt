@@ -11,6 +11,7 @@ pub mod Encoding
 pub mod Options
 pub mod Filling
 pub mod Opening
+pub mod Containing
 pub mod Walking
 pub mod Budget
 pub mod Meaning

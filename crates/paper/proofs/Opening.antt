@@ -6,21 +6,22 @@ use mathlib.Core.Bool.{Bool, true, false, cond, not, _||_, true≢false}
 use mathlib.Core.Logic.{_↔_, _⊎_, inl, inr}
 use mathlib.Core.List.{List, [], _∷_, _++_, map, map-append, append-nil}
 use native.Mathlib.Omega.{arith}
+use native.Mathlib.Nat.{zero-add}
 use lib.Dec.{eqb}
-use lib.ListN.{length, getD, take, drop, length-append, take-append-drop, length-drop}
-use lib.Seq.{take-length, drop-append-seam}
+use lib.ListN.{length, getD, take, drop, length-append, take-append-drop, length-drop, List·getD-append}
+use lib.Seq.{take-length, length-take-le, getD-take, getD-drop, getD-append-add, drop-append-seam}
 use borrow.Author.Tests.{ltb-true, not-true}
 use Rattle.paper.specs.Tests.{anyOf, Every}
 use Rattle.paper.specs.Rows.{stretch, Derives}
 use Rattle.paper.specs.Compare.{sameByte, Same, StandsIn}
 use Rattle.paper.specs.Decide.{fits, accepts}
 use Rattle.paper.specs.Terms.{Place, Known, Unknown, placesOf}
-use Rattle.paper.specs.Sheet.{Sheet, Claim, Derived, Contains, Equals, Assertion, Run, secondRun, letter, inside}
+use Rattle.paper.specs.Sheet.{Sheet, Claim, Derived, Contains, Equals, ContainsTerm, Assertion, Run, secondRun, letter, inside}
 use Rattle.paper.specs.Satisfy.{termWord, Holds, Signed, Met, Letters, Satisfies}
 use Rattle.paper.specs.Open.{termOn, Fills, SomeUnknown, CanHold, CanFail, Can, Possible, Open}
-use Rattle.paper.specs.Opens.{pattern, meet, canHold, isUnknown, canFail, can, possible, opensOn, opens}
+use Rattle.paper.specs.Opens.{pattern, meet, meetFrom, canHold, isUnknown, canFail, can, possible, opensOn, opens}
 use Rattle.paper.proofs.Tests.{and-intro, and-left, and-right, or-left, or-right, or-cases, true-or-false, any-intro, any-elim, all-intro, all-elim, all-of-every, every-all-of, every-map, every-right, any-of-append, eqb-same, same-eqb}
-use Rattle.paper.proofs.Comparing.{byte-refl, same-length, at-same}
+use Rattle.paper.proofs.Comparing.{byte-refl, byte-sym, same-sym, same-length, at-same}
 use Rattle.paper.proofs.Spelling.{spelled, spells-derives}
 use Rattle.paper.proofs.Derivation.{stretch-length, accepts-right}
 use Rattle.paper.proofs.Filling.{unknown-or-known, unknown-left, unknown-right, known-no-unknown, some-unknown, unknown-some, known-injective, fills-known, fills-only, fills-length, fills-append, fills-take, fills-drop, allows-fills, fills-allows, fills-below, fits-drop, fits-fills, fills-fits, prefix-fills, places-known}
@@ -50,16 +51,20 @@ module _ (s : Sheet) where
       (accepts-right (s .grammar) (pattern s T) (length T) 0 r) .1
       (record { word = x .word; long = same-length (x .word) t (x .same) ∙ fills-length s f; fit = fills-fits s f (x .word) t [] (sym (append-nil t)) (x .same); spelled = x .spells })
 
-  -- a word at place i of the term, the other places filled somehow
-  can-contain : (T : List Place) (i : ℕ) (u : List ℕ) → i + length u ≤ length T → fits (pattern s T) i u ≡ true → Fillable s T → (t : List ℕ) × Fills s T t × StandsIn u t
-  can-contain T i u h e (t, f) =
-      let m = fits-fills s (drop i T) u (rw length-drop (omega arith)) (sym (fits-drop s T i u (omega arith)) ∙ e) in
-      let k : take i T ++ (take (length u) (drop i T) ++ drop (length u) (drop i T)) ≡ T = rw (take-append-drop (length u) (drop i T)) (take-append-drop i T) in
-      let z = take i t ++ (m .0 ++ drop (length u) (drop i t)) in (
+  -- what fills l places from place i on stands in a word that fills them all, the other places filled somehow
+  fills-around : (T : List Place) (i l : ℕ) (m u : List ℕ) → Fills s (take l (drop i T)) m → Same u m → Fillable s T → (t : List ℕ) × Fills s T t × StandsIn u t
+  fills-around T i l m u g e (t, f) =
+      let k : take i T ++ (take l (drop i T) ++ drop l (drop i T)) ≡ T = rw (take-append-drop l (drop i T)) (take-append-drop i T) in
+      let z = take i t ++ (m ++ drop l (drop i t)) in (
         z,
-        subst (λ (U : List Place). Fills s U z) k (fills-append s (fills-take s f i) (fills-append s (m .2) (fills-drop s (fills-drop s f i) (length u)))),
-        record { before = take i t; middle = m .0; behind = drop (length u) (drop i t); joined = refl; same = m .1 },
+        subst (λ (U : List Place). Fills s U z) k (fills-append s (fills-take s f i) (fills-append s g (fills-drop s (fills-drop s f i) l))),
+        record { before = take i t; middle = m; behind = drop l (drop i t); joined = refl; same = e },
       )
+
+  can-contain : (T : List Place) (i : ℕ) (u : List ℕ) → i + length u ≤ length T → fits (pattern s T) i u ≡ true → Fillable s T → (t : List ℕ) × Fills s T t × StandsIn u t
+  can-contain T i u h e f =
+      let m = fits-fills s (drop i T) u (rw length-drop (omega arith)) (sym (fits-drop s T i u (omega arith)) ∙ e) in
+      fills-around T i (length u) (m .0) u (m .2) (m .1) f
 
   contain-can : {T : List Place} {t : List ℕ} (u : List ℕ) → Fills s T t → (h : StandsIn u t)
       → (length (h .before) + length u ≤ length T) × (fits (pattern s T) (length (h .before)) u ≡ true)
@@ -95,9 +100,40 @@ module _ (s : Sheet) where
       let r = can-equal T U (omega arith) (λ i l. h (suc i) (omega arith)) in
       (b .0 ∷ r .0, b .1 ∷ r .1, fills-append s (b .3) (r .2), fills-append s (b .4) (r .3), (b .2, r .4))
 
+  -- the places of U at place i of T, the others of T filled somehow
+  can-contain-term : (T U : List Place) (i : ℕ) → i + length U ≤ length T → meetFrom s T i U ≡ true → Fillable s T
+      → (t : List ℕ) × (u : List ℕ) × Fills s T t × Fills s U u × StandsIn u t
+  unfolding meetFrom
+  can-contain-term T U i h e f =
+      let l = length U in
+      let n : length (take l (drop i T)) ≡ l = length-take-le l (drop i T) (rw length-drop (omega arith)) in
+      let m = can-equal (take l (drop i T)) U n (λ j k.
+          let k′ : j < l = rw n at k in
+          rw (getD-take l (drop i T) j Unknown k′, getD-drop i T j Unknown) (all-elim l (λ j. meet s (getD T (i + j) Unknown) (getD U j Unknown)) e j k′)) in
+      let z = fills-around T i l (m .0) (m .1) (m .2) (same-sym (m .0) (m .1) (m .4)) f in
+      (z .0, m .1, z .1, m .3, z .2)
+
+  contain-term-can : {T U : List Place} {t u : List ℕ} → Fills s T t → Fills s U u → (h : StandsIn u t)
+      → (length (h .before) + length U ≤ length T) × (meetFrom s T (length (h .before)) U ≡ true)
+  unfolding meetFrom
+  contain-term-can {T} {U} {t} {u} f g h =
+      let x = h .before in
+      let m = h .middle in
+      let y = h .behind in
+      let a = fills-length s f in
+      let b = fills-length s g in
+      let c = same-length u m (h .same) in
+      let d = ap length (h .joined) in
+      let l : length x + length U ≤ length T = omega (arith, length-append x (m ++ y), length-append m y) in
+      (l, all-intro (length U) (λ j. meet s (getD T (length x + j) Unknown) (getD U j Unknown)) (λ j k.
+          let i : getD t (length x + j) 0 ≡ getD m j 0 =
+              ap (λ (w : List ℕ). getD w (length x + j) 0) (h .joined) ∙ getD-append-add x (m ++ y) j 0 ∙ List·getD-append m y 0 j (omega arith) in
+          fills-meet (fills-below s f Unknown (length x + j) (omega arith)) (fills-below s g Unknown j k)
+          (rw i (byte-sym (getD u j 0) (getD m j 0) (at-same u m (h .same) j (omega arith))))))
+
   -- where each term can be filled somehow, a claim that passes holds of some fillings
   can-hold : (c : Claim) (T U : List Place) → Fillable s T → Fillable s U → canHold s c T U ≡ true → CanHold s c T U
-  unfolding canHold
+  unfolding canHold meetFrom
   can-hold (Derived r) T U f g e = let d = can-derive r T e in (d .0, g .0, d .1, g .1, d .2)
   can-hold (Contains a b) T U f g e =
       let m = stretch 0 (s .grammar .text) a b in
@@ -106,12 +142,17 @@ module _ (s : Sheet) where
       let d = can-contain T (z .0) m (omega (arith, stretch-length (s .grammar .text) a b)) (z .2) f in
       (d .0, g .0, d .1, g .1, d .2)
   can-hold (Equals a b) T U f g e =
-      can-equal T U (eqb-same (length T) (length U) (and-left _ _ e))
-      (all-elim (length T) (λ i. meet s (getD T i Unknown) (getD U i Unknown)) (and-right (eqb (length T) (length U)) _ e))
+      let n = eqb-same (length T) (length U) (and-left _ _ e) in
+      can-equal T U n
+      (λ i l. rw (zero-add i) at (all-elim (length U) (λ j. meet s (getD T (0 + j) Unknown) (getD U j Unknown)) (and-right (eqb (length T) (length U)) _ e) i (omega arith)))
+  can-hold (ContainsTerm a b) T U f g e =
+      let z = any-elim (suc (length T) - length U) (λ i. meetFrom s T i U) e in
+      let l : z .0 < suc (length T) - length U = z .1 in
+      can-contain-term T U (z .0) (omega arith) (z .2) f
 
   -- a claim that holds of some fillings passes
   hold-can : (c : Claim) (T U : List Place) → CanHold s c T U → canHold s c T U ≡ true
-  unfolding canHold
+  unfolding canHold meetFrom
   hold-can (Derived r) T U (t, u, f, g, h) = derive-can r f h
   hold-can (Contains a b) T U (t, u, f, g, h) =
       let m = stretch 0 (s .grammar .text) a b in
@@ -120,8 +161,11 @@ module _ (s : Sheet) where
   hold-can (Equals a b) T U (t, u, f, g, e) =
       let n : length T ≡ length U = omega (arith, fills-length s f, fills-length s g, same-length t u e) in
       and-intro (same-eqb (length T) (length U) n)
-      (all-intro (length T) (λ i. meet s (getD T i Unknown) (getD U i Unknown))
-      (λ i l. fills-meet (fills-below s f Unknown i l) (fills-below s g Unknown i (omega arith)) (at-same t u e i (omega (arith, fills-length s f)))))
+      (all-intro (length U) (λ j. meet s (getD T (0 + j) Unknown) (getD U j Unknown))
+      (λ i l. rw (zero-add i) (fills-meet (fills-below s f Unknown i (omega arith)) (fills-below s g Unknown i l) (at-same t u e i (omega (arith, fills-length s f))))))
+  hold-can (ContainsTerm a b) T U (t, u, f, g, h) =
+      let z = contain-term-can f g h in
+      any-intro (suc (length T) - length U) (λ i. meetFrom s T i U) (length (h .before)) (omega (arith, z .0)) (z .1)
 
   -- a claim of known words can hold exactly when it holds
   known-hold : (c : Claim) (t u : List ℕ) → CanHold s c (map Known t) (map Known u) ↔ Holds s c t u

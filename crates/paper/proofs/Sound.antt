@@ -3,7 +3,7 @@
 use Prim.Native.Nat.{ℕ, _+_, _≤_, _<_}
 use lib.ListN.{length}
 use Rattle.paper.specs.Terms.{Part, Const, All, Cut}
-use Rattle.paper.specs.Sheet.{Run, Claim, Derived, Contains, Equals, Assertion, secondRun}
+use Rattle.paper.specs.Sheet.{Run, Claim, Derived, Contains, Equals, ContainsTerm, Assertion, secondRun}
 use Rattle.paper.specs.Rows.{Row, Empty, Range, Text, Alt, Seq, Star, Grammar, row}
 
 -- a row's numbers, over a text of so many bytes and so many rows
@@ -26,6 +26,7 @@ abbrev pub SoundClaim : (text rows parts : ℕ) → Claim → Type 0
 SoundClaim text rows parts (Derived r) = r < rows
 SoundClaim text rows parts (Contains a b) = a + b ≤ text
 SoundClaim text rows parts (Equals a b) = a + b ≤ parts
+SoundClaim text rows parts (ContainsTerm a b) = a + b ≤ parts
 
 pub record SoundAssertion (text rows parts : ℕ) (a : Assertion) : Type 0 where
   pub run : a .term .first + a .term .count ≤ parts

@@ -73,6 +73,9 @@ any-elim (suc n) f e = go (or-cases (f n) (anyBelow n f) (rw any-suc at e)) (λ 
     go (inl p) ih = (n, omega arith, p)
     go (inr p) ih = let r = ih p in (r .0, omega (arith, r .1), r .2)
 
+pub any-nowhere : (n : ℕ) (f : ℕ → Bool) → ((k : ℕ) → k < n → f k ≡ false) → anyBelow n f ≡ false
+any-nowhere n f h = same-test (anyBelow n f) false (λ e. let r = any-elim n f e in sym (h (r .0) (r .1)) ∙ r .2) (λ e. absurd (true≢false (sym e)))
+
 pub eqb-same : (m n : ℕ) → eqb m n ≡ true → m ≡ n
 eqb-same m n e = eqb→eq m n (subst T (sym e) tt)
 
@@ -135,6 +138,13 @@ all-elim (suc n) f e k h = go (eq-or-lt-of-le (le-of-suc-le-suc h)) (λ l. all-e
     go : (k ≡ n) ⊎ (k < n) → (k < n → f k ≡ true) → f k ≡ true
     go (inl p) ih = rw p (and-left (f n) (allBelow n f) (rw all-suc at e))
     go (inr l) ih = ih l
+
+pub all-same : (n : ℕ) (f g : ℕ → Bool) → ((k : ℕ) → k < n → f k ≡ g k) → allBelow n f ≡ allBelow n g
+all-same n f g h =
+    same-test (allBelow n f) (allBelow n g) (λ a. all-intro n g (λ k l. sym (h k l) ∙ all-elim n f a k l)) (λ a. all-intro n f (λ k l. h k l ∙ all-elim n g a k l))
+
+pub all-but : (n : ℕ) (f : ℕ → Bool) (k : ℕ) → k < n → f k ≡ false → allBelow n f ≡ false
+all-but n f k h e = same-test (allBelow n f) false (λ a. sym e ∙ all-elim n f a k h) (λ a. absurd (true≢false (sym a)))
 
 -- ---- the elements of a list
 

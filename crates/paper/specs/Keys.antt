@@ -1,4 +1,4 @@
--- "Keys worked through", K1 to K12, and the limits that follow them: one table. Its theorem is `keys-right`, in proofs/Keys.antt.
+-- "Keys worked through", K1 to K12, the limits that follow them, and keys of the changes: one table. Its theorem is `keys-right`, in proofs/Keys.antt.
 use Prim.Native.Nat.{ℕ, _+_}
 use mathlib.Core.Path.{_≡_}
 use mathlib.Core.List.{List, [], _∷_, _++_}
@@ -56,9 +56,13 @@ sheetK11 = sheetBytes 2 2 (48 ∷ 57 ∷ []) [] [] [] []
 unfoldable pub sheetK12 : List ℕ
 sheetK12 = sheetBytes 0 2 (97 ∷ 97 ∷ []) [] (record6 2 97 97 ++ record6 6 0 0) [] []
 
--- the letter a at lengths 0 to n, asked of v joined to a constant of so many bytes
-unfoldable pub sheetTerm : (longest constant : ℕ) → List ℕ
-sheetTerm longest constant = sheetBytes 0 longest (97 ∷ 97 ∷ []) (replicate constant 98) [] (allOfV ++ record6 1 0 constant) (record12 2 0 0 2 0 0)
+-- letters a, b; 1..2; of v and the constant `ab`, parts 0 and 1, the term of one part contains the term of b parts from part a
+unfoldable pub sheetWithin : (first a b : ℕ) → List ℕ
+sheetWithin first a b = sheetBytes 1 2 (97 ∷ 98 ∷ []) (97 ∷ 98 ∷ []) [] (allOfV ++ record6 1 0 2) (record12 4 0 first 1 a b)
+
+-- the letter a at lengths 0 to n, and v joined to a constant of so many bytes, asked about by the assertion
+unfoldable pub sheetTerm : (longest constant : ℕ) → (assertion : List ℕ) → List ℕ
+sheetTerm longest constant = sheetBytes 0 longest (97 ∷ 97 ∷ []) (replicate constant 98) [] (allOfV ++ record6 1 0 constant)
 
 -- a sheet of one letter, no assertions and the given longest length, whose text table is said to begin at `offset` (2 is right)
 unfoldable pub sheetLong : (longest offset : ℕ) → List ℕ
@@ -102,9 +106,15 @@ keys =
     Sizes (sheetB 4 4) 96 ∷  -- "K4 .., a sheet of 96 bytes"
     Refuses (sheetLong 60 2) 7564 60 0 0 0 ∷  -- longest 60 passes
     Refuses (sheetLong 61 2) 7564 61 141 0 0 ∷  -- 61 is 141
-    Refuses (sheetTerm 20 40) 7564 60 0 0 0 ∷  -- a 60-byte term passes
-    Refuses (sheetTerm 20 41) 7564 60 17 4 0 ∷  -- 61 is 17
+    Refuses (sheetTerm 20 40 (record12 2 0 0 2 0 0)) 7564 60 0 0 0 ∷  -- a 60-byte term passes
+    Refuses (sheetTerm 20 41 (record12 2 0 0 2 0 0)) 7564 60 17 4 0 ∷  -- 61 is 17
     Refuses (sheetLong 60 2) 7563 60 18 0 0 ∷  -- 7,563 words is 18
     Refuses (sheetLong 0 2) 7564 0 0 0 0 ∷  -- longest 0 accepts an output of no bytes
     Refuses (sheetLong 61 3) 7564 60 141 0 0 ∷  -- 61 with a wrong offset is 141
+    Solves (sheetWithin 0 1 1) million (Found (97 ∷ 98 ∷ []) 5) ∷  -- kind 4: v contains `ab`
+    Solves (sheetWithin 1 0 1) million (Found (97 ∷ []) 2) ∷  -- `ab` contains v
+    Solves (sheetWithin 0 1 0) million (Found (97 ∷ []) 2) ∷  -- v contains the empty term
+    Refuses (sheetWithin 0 1 2) 7564 60 16 4 0 ∷  -- a second term past the parts is 16
+    Refuses (sheetTerm 20 40 (record12 4 0 0 1 0 2)) 7564 60 0 0 0 ∷  -- a second term of 60 bytes passes
+    Refuses (sheetTerm 20 41 (record12 4 0 0 1 0 2)) 7564 60 17 4 0 ∷  -- 61 is 17
     []

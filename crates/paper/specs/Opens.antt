@@ -1,5 +1,5 @@
 -- Whether a prefix is open, decided.
-use Prim.Native.Nat.{ℕ, suc, _-_}
+use Prim.Native.Nat.{ℕ, suc, _+_, _-_}
 use mathlib.Core.Bool.{Bool, true, false, not, cond, _&&_, _||_}
 use mathlib.Core.List.{List}
 use lib.Dec.{eqb}
@@ -9,7 +9,7 @@ use Rattle.paper.specs.Rows.{stretch}
 use Rattle.paper.specs.Compare.{sameByte}
 use Rattle.paper.specs.Decide.{Pattern, fits, accepts}
 use Rattle.paper.specs.Terms.{Place, Known, Unknown, placesOf}
-use Rattle.paper.specs.Sheet.{Sheet, Claim, Derived, Contains, Equals, Assertion, secondRun, letter, inside}
+use Rattle.paper.specs.Sheet.{Sheet, Claim, Derived, Contains, Equals, ContainsTerm, Assertion, secondRun, letter, inside}
 use Rattle.paper.specs.Open.{termOn}
 
 -- the bytes that a place may hold: its own, or any letter
@@ -26,11 +26,16 @@ meet s (Known x) y = allows s y x
 meet s Unknown (Known y) = letter s y
 meet s Unknown Unknown = anyBelow 256 (letter s)
 
+-- the places of U can hold the bytes that those of T hold from place i on
+unfoldable pub meetFrom : Sheet → List Place → ℕ → List Place → Bool
+meetFrom s T i U = allBelow (length U) (λ j. meet s (getD T (i + j) Unknown) (getD U j Unknown))
+
 -- the claim can be made to hold
 unfoldable pub canHold : Sheet → Claim → List Place → List Place → Bool
 canHold s (Derived r) T U = accepts (s .grammar) (pattern s T) (length T) 0 r
 canHold s (Contains a b) T U = anyBelow (suc (length T) - b) (λ i. fits (pattern s T) i (stretch 0 (s .grammar .text) a b))
-canHold s (Equals a b) T U = eqb (length T) (length U) && allBelow (length T) (λ i. meet s (getD T i Unknown) (getD U i Unknown))
+canHold s (Equals a b) T U = eqb (length T) (length U) && meetFrom s T 0 U
+canHold s (ContainsTerm a b) T U = anyBelow (suc (length T) - length U) (λ i. meetFrom s T i U)
 
 unfoldable pub isUnknown : Place → Bool
 isUnknown (Known x) = false

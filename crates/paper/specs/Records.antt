@@ -44,7 +44,8 @@ assertFields text rows parts kind a b =
     cond (eqb kind 1) (ltb a rows && eqb b 0)
     (cond (eqb kind 2) (leb (a + b) text)
     (cond (eqb kind 3) (leb (a + b) parts)
-    false))
+    (cond (eqb kind 4) (leb (a + b) parts)
+    false)))
 
 -- a sign of 0 or 1, a run inside the parts, the zero field, and the kind's own
 unfoldable pub assertOk : List ℕ → (o text rows parts : ℕ) → Bool

@@ -8,7 +8,7 @@ use Rattle.paper.specs.Tests.{Every}
 use Rattle.paper.specs.Compare.{Same, StandsIn}
 use Rattle.paper.specs.Rows.{stretch, Derives}
 use Rattle.paper.specs.Terms.{term}
-use Rattle.paper.specs.Sheet.{Sheet, Claim, Derived, Contains, Equals, Assertion, Run, secondRun, letter, partsOf, inside}
+use Rattle.paper.specs.Sheet.{Sheet, Claim, Derived, Contains, Equals, ContainsTerm, Assertion, Run, secondRun, letter, partsOf, inside}
 
 -- the word that a term comes to where v is w
 unfoldable pub termWord : Sheet → List ℕ → Run → List ℕ
@@ -19,6 +19,7 @@ abbrev pub Holds : Sheet → Claim → List ℕ → List ℕ → Type 0
 Holds s (Derived r) t u = Derives (s .grammar) r t
 Holds s (Contains a b) t u = StandsIn (stretch 0 (s .grammar .text) a b) t
 Holds s (Equals a b) t u = Same t u
+Holds s (ContainsTerm a b) t u = StandsIn u t
 
 -- "sign 0 asserts, 1 denies"
 abbrev pub Signed : Bool → Type 0 → Type 0

@@ -25,24 +25,27 @@ pub data Claim : Type 0 where
   Derived : ℕ → Claim  -- 1: the term is derived by row a
   Contains : ℕ → ℕ → Claim  -- 2: the term contains text from offset a, b bytes
   Equals : ℕ → ℕ → Claim  -- 3: the term equals the term of b parts from part a
+  ContainsTerm : ℕ → ℕ → Claim  -- 4: the term contains the term of b parts from part a
 
 -- the claim of a kind with its a and b
 unfoldable pub claimOf : (kind a b : ℕ) → Claim
 claimOf kind a b =
     cond (eqb kind 1) (Derived a)
     (cond (eqb kind 2) (Contains a b)
-    (Equals a b))
+    (cond (eqb kind 3) (Equals a b)
+    (ContainsTerm a b)))
 
 pub record Assertion : Type 0 where
   pub claim : Claim
   pub denied : Bool
   pub term : Run
 
--- the second term of an assertion: kind 3 has one, for the others it is the empty term
+-- the second term of an assertion: kinds 3 and 4 have one, for the others it is the empty term
 abbrev pub secondRun : Claim → Run
 secondRun (Derived a) = record { first = 0; count = 0 }
 secondRun (Contains a b) = record { first = 0; count = 0 }
 secondRun (Equals a b) = record { first = a; count = b }
+secondRun (ContainsTerm a b) = record { first = a; count = b }
 
 pub record Sheet : Type 0 where
   pub letters : List Span

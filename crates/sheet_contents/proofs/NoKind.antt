@@ -9,7 +9,7 @@ use borrow.Author.Tests.{ne-eqb}
 use native.Mathlib.Omega.{arith}
 use Rattle.paper.specs.Rows.{noRow, rowOf}
 use Rattle.paper.specs.Terms.{Cut, partOf}
-use Rattle.paper.specs.Sheet.{Equals, claimOf}
+use Rattle.paper.specs.Sheet.{ContainsTerm, claimOf}
 
 above : (k j : ℕ) → j < k → eqb k j ≡ false
 above k j h = ne-eqb k j (λ e. omega arith)
@@ -23,6 +23,6 @@ module _ (k a b : ℕ) where
   unfolding partOf
   last-part h = simp (above k 1 (omega arith), above k 2 (omega arith))
 
-  pub last-claim : 3 ≤ k → claimOf k a b ≡ Equals a b
+  pub last-claim : 4 ≤ k → claimOf k a b ≡ ContainsTerm a b
   unfolding claimOf
-  last-claim h = simp (above k 1 (omega arith), above k 2 (omega arith))
+  last-claim h = simp (above k 1 (omega arith), above k 2 (omega arith), above k 3 (omega arith))

@@ -10,7 +10,7 @@ use Rattle.sheet_contents.specs.declared.Row.the-variants.{Empty, Range,
 use Rattle.sheet_contents.specs.declared.Part.{Part}
 use Rattle.sheet_contents.specs.declared.Part.the-variants.{Const, All, Cut}
 use Rattle.sheet_contents.specs.declared.Claim.{Claim}
-use Rattle.sheet_contents.specs.declared.Claim.the-variants.{Derived, Contains, Equals}
+use Rattle.sheet_contents.specs.declared.Claim.the-variants.{Derived, Contains, Equals, ContainsTerm}
 use Rattle.sheet_contents.specs.declared.Run.{Run}
 use Rattle.sheet_contents.specs.declared.Assertion.{Assertion}
 
@@ -31,6 +31,7 @@ abbrev pub asClaim : Claim → sheet.Claim
 asClaim (Derived a) = sheet.Derived a
 asClaim (Contains a b) = sheet.Contains a b
 asClaim (Equals a b) = sheet.Equals a b
+asClaim (ContainsTerm a b) = sheet.ContainsTerm a b
 
 abbrev pub asRun : Run → sheet.Run
 asRun r = record { first = r .first; count = r .count }

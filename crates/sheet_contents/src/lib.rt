@@ -26,6 +26,7 @@ pub enum Claim {
     Derived(usize),
     Contains(usize, usize),
     Equals(usize, usize),
+    ContainsTerm(usize, usize),
 }
 
 // A run of parts of the table.
@@ -92,7 +93,8 @@ fn claim_of(kind: u8, a: usize, b: usize) -> Claim
     match kind {
         1 => Claim::Derived(a),
         2 => Claim::Contains(a, b),
-        0 | 3..=255 => Claim::Equals(a, b),
+        3 => Claim::Equals(a, b),
+        0 | 4..=255 => Claim::ContainsTerm(a, b),
     }
 }
 
@@ -115,7 +117,7 @@ pub fn assertion_at(s: &[u8], o: usize) -> Assertion
     }
 }
 
-// The second term of a claim: equality has one, for the others it is the empty term.
+// The second term of a claim: equality has one, and containment of a term; for the others it is the empty term.
 pub fn second_run(c: Claim) -> Run
     ensures { λ r. ⌜ asRun r ≡ secondRun (asClaim c) ⌝ }
 {
@@ -123,5 +125,6 @@ pub fn second_run(c: Claim) -> Run
         Claim::Derived(_) => Run { first: 0, count: 0 },
         Claim::Contains(_, _) => Run { first: 0, count: 0 },
         Claim::Equals(a, b) => Run { first: a, count: b },
+        Claim::ContainsTerm(a, b) => Run { first: a, count: b },
     }
 }

@@ -11,7 +11,7 @@ use Rattle.paper.specs.Bytes.{u8At, u16At}
 use Rattle.paper.specs.Trailer.{countOf, recordAt}
 use Rattle.paper.specs.Rows.{Row, Empty, Range, Text, Alt, Seq, Star, noRow, rowOf}
 use Rattle.paper.specs.Terms.{Part, Const, All, Cut, partOf}
-use Rattle.paper.specs.Sheet.{Claim, Derived, Contains, Equals, claimOf, secondRun, rowAt, partAt, assertionAt}
+use Rattle.paper.specs.Sheet.{Claim, Derived, Contains, Equals, ContainsTerm, claimOf, secondRun, rowAt, partAt, assertionAt}
 use Rattle.paper.specs.Records.{rowFields, rowOk, partFields, partOk, assertFields, assertOk, recordOk, tableOk, badTable}
 use Rattle.paper.proofs.Tests.{and-left, and-right}
 use Rattle.paper.proofs.Sound.{SoundRow, SoundPart, SoundClaim, SoundAssertion}
@@ -55,22 +55,25 @@ unfolding partFields partOf
 part-fields text k a b e = part-kinds 0 text a b (eqb k 1) (eqb k 2) (eqb k 3) e
 
 module _ (text rows parts a b : ℕ) where
-  claim-kinds : (one two three : Bool) → cond one (ltb a rows && eqb b 0) (cond two (leb (a + b) text) (cond three (leb (a + b) parts) false)) ≡ true
-      → SoundClaim text rows parts (cond one (Derived a) (cond two (Contains a b) (Equals a b)))
-  claim-kinds true two three e = ltb-true a rows (and-left (ltb a rows) (eqb b 0) e)
-  claim-kinds false true three e = leb-true (a + b) text e
-  claim-kinds false false true e = leb-true (a + b) parts e
-  claim-kinds false false false e = absurd (true≢false (sym e))
+  claim-kinds : (one two three four : Bool)
+      → cond one (ltb a rows && eqb b 0) (cond two (leb (a + b) text) (cond three (leb (a + b) parts) (cond four (leb (a + b) parts) false))) ≡ true
+      → SoundClaim text rows parts (cond one (Derived a) (cond two (Contains a b) (cond three (Equals a b) (ContainsTerm a b))))
+  claim-kinds true two three four e = ltb-true a rows (and-left (ltb a rows) (eqb b 0) e)
+  claim-kinds false true three four e = leb-true (a + b) text e
+  claim-kinds false false true four e = leb-true (a + b) parts e
+  claim-kinds false false false true e = leb-true (a + b) parts e
+  claim-kinds false false false false e = absurd (true≢false (sym e))
 
   claim-sound : (k : ℕ) → assertFields text rows parts k a b ≡ true → SoundClaim text rows parts (claimOf k a b)
   unfolding assertFields claimOf
-  claim-sound k e = claim-kinds (eqb k 1) (eqb k 2) (eqb k 3) e
+  claim-sound k e = claim-kinds (eqb k 1) (eqb k 2) (eqb k 3) (eqb k 4) e
 
 -- a claim's second run lies inside the parts
 pub second-inside : (text rows parts : ℕ) (c : Claim) → SoundClaim text rows parts c → secondRun c .first + secondRun c .count ≤ parts
 second-inside text rows parts (Derived r) h = omega arith
 second-inside text rows parts (Contains a b) h = omega arith
 second-inside text rows parts (Equals a b) h = h
+second-inside text rows parts (ContainsTerm a b) h = h
 
 -- ---- the record at o
 

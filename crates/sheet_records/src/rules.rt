@@ -70,7 +70,8 @@ fn assert_fields(text: usize, rows: usize, parts: usize, kind: u8, a: usize, b: 
         1 => a < rows && b == 0,
         2 => a + b <= text,
         3 => a + b <= parts,
-        0 | 4..=255 => false,
+        4 => a + b <= parts,
+        0 | 5..=255 => false,
     }
 }
 

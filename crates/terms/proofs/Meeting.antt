@@ -1,7 +1,7 @@
 -- Places compared one by one.
-use Prim.Native.Nat.{ℕ, _<_, _≤_}
-use mathlib.Core.Path.{_≡_, refl, sym, ap, _∙_}
-use mathlib.Core.Bool.{Bool, true, false, true≢false}
+use Prim.Native.Nat.{ℕ, suc, _+_, _-_, _<_, _≤_}
+use mathlib.Core.Path.{_≡_, sym, ap, _∙_}
+use mathlib.Core.Bool.{Bool, true, false}
 use mathlib.Core.Logic.{_≢_}
 use mathlib.Core.List.{List}
 use native.Mathlib.Omega.{arith}
@@ -11,18 +11,18 @@ use lib.Dec.{eqb}
 use lib.ListN.{length, getD, take}
 use lib.Seq.{length-take-le, getD-take}
 use Rattle.paper.specs.Bytes.{u8At}
-use Rattle.paper.specs.Tests.{anyBelow, allBelow, anyOf}
+use Rattle.paper.specs.Tests.{anyOf}
 use Rattle.paper.specs.Terms.{Unknown}
-use Rattle.paper.specs.Sheet.{Sheet, sheetOf, letter, Equals}
-use Rattle.paper.specs.Opens.{allows, meet, isUnknown, canHold}
-use Rattle.paper.proofs.Tests.{any-of-below, any-intro, any-elim, all-intro, all-elim, and-intro}
+use Rattle.paper.specs.Sheet.{Sheet, sheetOf, letter, Equals, ContainsTerm}
+use Rattle.paper.specs.Opens.{allows, meet, meetFrom, isUnknown, canHold}
+use Rattle.paper.proofs.Tests.{any-of-below, any-intro, any-nowhere, all-same}
 use Rattle.sheet.specs.Good.{Good}
 use Rattle.sheet.proofs.Contents.{some-letter}
 use Rattle.workspace.specs.Places.{placeOf}
 use Rattle.workspace.proofs.Places.{place-known, place-unknown, places-at}
 use Rattle.terms.specs.declared.Places.{Places}
-use Rattle.terms.specs.Shown.{shown, Sized}
-use Rattle.terms.proofs.Showing.{shown-length}
+use Rattle.terms.specs.Shown.{shown, Sized, meetFirst}
+use Rattle.terms.proofs.Showing.{shown-length, places-length}
 
 pub shown-at : (p : Places) (i : ℕ) → Sized p → i < p .len → getD (shown p) i Unknown ≡ placeOf (getD (p .of) i 0)
 unfolding shown
@@ -55,14 +55,10 @@ module _ (p : Places) (z : Sized p) where
       sym (any-of-below isUnknown (shown p) Unknown ∙ any-intro (length (shown p)) _ i (rw (shown-length p z) h) (at-unknown i h ∙ eq-eqb _ 256 e))
 
   pub none-unknown : NoneTo p (p .len) → false ≡ anyOf isUnknown (shown p)
-  none-unknown h = sym (any-of-below isUnknown (shown p) Unknown ∙ go (anyBelow (length (shown p)) (λ k. isUnknown (getD (shown p) k Unknown))) refl)
-    where
-      go : (b : Bool) → anyBelow (length (shown p)) (λ k. isUnknown (getD (shown p) k Unknown)) ≡ b → b ≡ false
-      go false e = refl
-      go true e =
-          let w = any-elim (length (shown p)) _ e in
-          let l : w .0 < p .len = omega (arith, shown-length p z, w .1) in
-          absurd (true≢false (sym (w .2) ∙ at-unknown (w .0) l ∙ ne-eqb _ 256 (h (w .0) l)))
+  none-unknown h =
+      sym
+      (any-of-below isUnknown (shown p) Unknown ∙
+      any-nowhere (length (shown p)) (λ k. isUnknown (getD (shown p) k Unknown)) (λ k i. let l : k < p .len = rw (shown-length p z) at i in at-unknown k l ∙ ne-eqb _ 256 (h k l)))
 
 -- ---- two places
 
@@ -87,33 +83,28 @@ module _ (s : List ℕ) (g : Good s) (x y : ℕ) where
 
 -- ---- two terms
 
--- the first i places meet
-abbrev pub MeetTo : Sheet → Places → Places → ℕ → Type 0
-MeetTo s p q i = (j : ℕ) → j < i → meet s (placeOf (getD (p .of) j 0)) (placeOf (getD (q .of) j 0)) ≡ true
-
 module _ (s : Sheet) (p q : Places) (zp : Sized p) (zq : Sized q) where
-  abbrev both : ℕ → Bool
-  both i = meet s (getD (shown p) i Unknown) (getD (shown q) i Unknown)
+  -- the places of q stand over those of p from i on
+  abbrev pub stands : ℕ → Bool
+  stands i = meetFirst s (p .of) i (q .of) (q .len)
 
-  both-at : (i : ℕ) → i < p .len → q .len ≡ p .len → both i ≡ meet s (placeOf (getD (p .of) i 0)) (placeOf (getD (q .of) i 0))
-  both-at i h e = rw (shown-at p i zp h, shown-at q i zq (omega arith))
+  stands-is : (i : ℕ) → i + q .len ≤ p .len → meetFrom s (shown p) i (shown q) ≡ stands i
+  unfolding meetFirst meetFrom
+  stands-is i h = rw (shown-length q zq) (all-same (q .len) _ _ (λ j l. rw (shown-at p (i + j) zp (omega arith), shown-at q j zq l)))
 
   pub lengths-differ : q .len ≢ p .len → (a b : ℕ) → false ≡ canHold s (Equals a b) (shown p) (shown q)
   unfolding canHold
   lengths-differ h a b = rw (shown-length p zp, shown-length q zq, ne-eqb (p .len) (q .len) (λ e. h (sym e)))
 
-  pub all-meet : q .len ≡ p .len → MeetTo s p q (p .len) → (a b : ℕ) → true ≡ canHold s (Equals a b) (shown p) (shown q)
+  pub lengths-same : q .len ≡ p .len → (x : Bool) → x ≡ stands 0 → (a b : ℕ) → x ≡ canHold s (Equals a b) (shown p) (shown q)
   unfolding canHold
-  all-meet e h a b =
-      let n : eqb (length (shown p)) (length (shown q)) ≡ true = rw (shown-length p zp, shown-length q zq) (eq-eqb (p .len) (q .len) (sym e)) in
-      sym (and-intro n
-      (all-intro (length (shown p)) both (λ k l. let m : k < p .len = rw (shown-length p zp) at l in both-at k m e ∙ h k m)))
+  lengths-same e x h a b = rw (shown-length p zp, shown-length q zq, eq-eqb (p .len) (q .len) (sym e)) (h ∙ sym (stands-is 0 (omega arith)))
 
-  pub one-apart : q .len ≡ p .len → (i : ℕ) → i < p .len → meet s (placeOf (getD (p .of) i 0)) (placeOf (getD (q .of) i 0)) ≡ false
-      → (a b : ℕ) → false ≡ canHold s (Equals a b) (shown p) (shown q)
+  pub stands-here : (i : ℕ) → i + q .len ≤ p .len → stands i ≡ true → (a b : ℕ) → true ≡ canHold s (ContainsTerm a b) (shown p) (shown q)
   unfolding canHold
-  one-apart e i h f a b = rw (shown-length p zp, shown-length q zq, eq-eqb (p .len) (q .len) (sym e)) (go (allBelow (p .len) both) refl)
-    where
-      go : (b : Bool) → allBelow (p .len) both ≡ b → false ≡ allBelow (p .len) both
-      go true y = absurd (true≢false (sym (all-elim (p .len) both y i h) ∙ both-at i h e ∙ f))
-      go false y = sym y
+  stands-here i h e a b = rw (shown-length p zp, shown-length q zq) (sym (any-intro (suc (p .len) - q .len) _ i (omega arith) (stands-is i h ∙ e)))
+
+  pub stands-nowhere : (i : ℕ) → ((j : ℕ) → j < i → stands j ≡ false) → p .len < i + q .len → (a b : ℕ) → false ≡ canHold s (ContainsTerm a b) (shown p) (shown q)
+  unfolding canHold
+  stands-nowhere i h l a b =
+      rw (shown-length p zp, shown-length q zq) (sym (any-nowhere (suc (p .len) - q .len) _ (λ j k. stands-is j (omega arith) ∙ h j (omega arith))))

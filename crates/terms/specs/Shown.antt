@@ -1,16 +1,17 @@
 -- The places that a `Places` of the code stands for.
 use Prim.Native.Nat.{ℕ, _+_, _≤_, _<_}
 use mathlib.Core.Path.{_≡_}
-use mathlib.Core.Bool.{true}
+use mathlib.Core.Bool.{Bool, true}
 use mathlib.Core.List.{List, _++_}
 use lib.ListN.{length, getD, take}
 use lib.Seq.{paste}
-use Rattle.paper.specs.Tests.{allOf}
+use Rattle.paper.specs.Tests.{allBelow, allOf}
 use Rattle.paper.specs.Trailer.{countOf, longest}
 use Rattle.paper.specs.Records.{termFits}
 use Rattle.paper.specs.Terms.{Place, Known, Part, piece, fullLength, cutInside}
-use Rattle.paper.specs.Sheet.{Run, sheetOf, partsOf}
-use Rattle.workspace.specs.Places.{placesIn}
+use Rattle.paper.specs.Sheet.{Sheet, Run, sheetOf, partsOf}
+use Rattle.paper.specs.Opens.{meet}
+use Rattle.workspace.specs.Places.{placeOf, placesIn}
 use Rattle.terms.specs.declared.Places.{Places}
 
 -- the first `len` of them
@@ -22,6 +23,10 @@ pub record Sized (p : Places) : Type 0 where
   pub room : p .len ≤ 60
   pub long : length (p .of) ≡ 60
   pub small : (i : ℕ) → i < 60 → getD (p .of) i 0 ≤ 256
+
+-- the first `len` places of q can hold the bytes that those of p hold from i on
+unfoldable pub meetFirst : Sheet → (p : List ℕ) (i : ℕ) (q : List ℕ) (len : ℕ) → Bool
+meetFirst s p i q len = allBelow len (λ j. meet s (placeOf (getD p (i + j) 0)) (placeOf (getD q j 0)))
 
 -- each number is a byte
 abbrev pub Bytes : List ℕ → Type 0

@@ -1,13 +1,14 @@
-// Places compared: is one unknown, can two terms be the same word?
+// Places compared: is one unknown, can two terms be the same word, can one stand in the other?
 ghost use mathlib.Core.Path.{_≡_};
-ghost use Prim.Native.Nat.{ℕ, _≤_};
+ghost use Prim.Native.Nat.{ℕ, _+_, _≤_};
+ghost use lib.ListN.{length};
 ghost use Rattle.paper.specs.Tests.{anyOf};
-ghost use Rattle.paper.specs.Sheet.{sheetOf, Equals};
+ghost use Rattle.paper.specs.Sheet.{sheetOf, Equals, ContainsTerm};
 ghost use Rattle.paper.specs.Opens.{isUnknown, canHold};
 ghost use Rattle.paper.specs.Opens as paper;
 ghost use Rattle.sheet.specs.Good.{Good};
 ghost use Rattle.workspace.specs.Places.{placeOf};
-ghost use Rattle.terms.specs.Shown.{shown, Sized};
+ghost use Rattle.terms.specs.Shown.{shown, Sized, meetFirst};
 
 // Some place is unknown.
 pub fn some_unknown(p: crate::Places) -> bool
@@ -27,7 +28,7 @@ pub fn some_unknown(p: crate::Places) -> bool
 
 // Two places can hold the same byte.
 fn meet(s: &[u8], x: u16, y: u16) -> bool
-    requires { ⌜ Good (now s) × (x ≤ 256) × (y ≤ 256) ⌝ }
+    requires { ⌜ Good (now s) ⌝ }
     ensures { λ r. ⌜ r ≡ paper.meet (sheetOf (now (s .entry))) (placeOf x) (placeOf y) ⌝ }
 {
     if x < 256 {
@@ -42,22 +43,46 @@ fn meet(s: &[u8], x: u16, y: u16) -> bool
     true
 }
 
-// Two terms can be the same word.
-pub fn equal(s: &[u8], p: crate::Places, q: crate::Places) -> bool
-    requires { ⌜ Good (now s) × Sized p × Sized q ⌝ }
-    ensures { λ r. ⌜ ((a b : ℕ) → r ≡ canHold (sheetOf (now (s .entry))) (Equals a b) (shown p) (shown q)) ⌝ }
+// The first `len` places of q can hold the bytes that those of p hold from i on.
+fn meet_from(s: &[u8], p: &[u16], i: usize, q: &[u16], len: usize) -> bool
+    requires { ⌜ Good (now s) × (i + len ≤ length (now p)) × (len ≤ length (now q)) ⌝ }
+    ensures { λ r. ⌜ r ≡ meetFirst (sheetOf (now (s .entry))) (now (p .entry)) i (now (q .entry)) len ⌝ }
 {
-    let n = p.len;
-    if q.len != n {
-        return false;
-    }
-    let mut i = 0;
-    while i < n {
-        if meet(s, p.of[i], q.of[i]) {
-            i += 1;
+    let mut j = 0;
+    while j < len {
+        if meet(s, p[i + j], q[j]) {
+            j += 1;
         } else {
             return false;
         }
     }
     true
+}
+
+// Two terms can be the same word.
+pub fn equal(s: &[u8], p: crate::Places, q: crate::Places) -> bool
+    requires { ⌜ Good (now s) × Sized p × Sized q ⌝ }
+    ensures { λ r. ⌜ ((a b : ℕ) → r ≡ canHold (sheetOf (now (s .entry))) (Equals a b) (shown p) (shown q)) ⌝ }
+{
+    if q.len != p.len {
+        return false;
+    }
+    meet_from(s, &p.of, 0, &q.of, q.len)
+}
+
+// The term p can contain the term q.
+pub fn contains(s: &[u8], p: crate::Places, q: crate::Places) -> bool
+    requires { ⌜ Good (now s) × Sized p × Sized q ⌝ }
+    ensures { λ r. ⌜ ((a b : ℕ) → r ≡ canHold (sheetOf (now (s .entry))) (ContainsTerm a b) (shown p) (shown q)) ⌝ }
+{
+    let n = p.len;
+    let m = q.len;
+    let mut i = 0;
+    while i + m <= n {
+        if meet_from(s, &p.of, i, &q.of, m) {
+            return true;
+        }
+        i += 1;
+    }
+    false
 }

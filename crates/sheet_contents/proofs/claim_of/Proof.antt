@@ -17,5 +17,9 @@ returns-3 : tie.Need-returns-3
 unfolding claimOf
 returns-3 c = rw (c .match .keys3)
 
+returns-4 : tie.Need-returns-4
+unfolding claimOf
+returns-4 c = rw (c .match .keys4)
+
 pub claim-of-spec : {M : Type 1} → statement M
-claim-of-spec = tie.close (tie.spec returns returns-2 returns-3 (λ c. sym (last-claim _ _ _ (omega arith))))
+claim-of-spec = tie.close (tie.spec returns returns-2 returns-3 returns-4 (λ c. sym (last-claim _ _ _ (omega arith))))

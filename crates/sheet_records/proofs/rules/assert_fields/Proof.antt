@@ -27,9 +27,13 @@ returns-5 c = rw (c .match .keys4)
 
 returns-6 : tie.Need-returns-6
 unfolding assertFields
-returns-6 c = simp
-    (ne-eqb (c .before .args .kind) 1 (λ e. omega arith), ne-eqb (c .before .args .kind) 2 (λ e. omega arith), ne-eqb (c .before .args .kind) 3 (λ e. omega arith))
+returns-6 c = rw (c .match .keys5)
+
+returns-7 : tie.Need-returns-7
+unfolding assertFields
+returns-7 c = simp
+    (ne-eqb (c .before .args .kind) 1 (λ e. omega arith), ne-eqb (c .before .args .kind) 2 (λ e. omega arith), ne-eqb (c .before .args .kind) 3 (λ e. omega arith), ne-eqb (c .before .args .kind) 4 (λ e. omega arith))
 
 pub assert-fields-spec : {M : Type 1} → statement M
 assert-fields-spec =
-    tie.close (tie.spec (λ c. search needs) (λ c. search needs) returns returns-2 returns-3 returns-4 returns-5 returns-6)
+    tie.close (tie.spec (λ c. search needs) (λ c. search needs) (λ c. search needs) returns returns-2 returns-3 returns-4 returns-5 returns-6 returns-7)
