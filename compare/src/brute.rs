@@ -73,12 +73,14 @@ fn holds(sheet: &Sheet, claim: Claim, terms: &[Vec<u8>]) -> bool {
     let term = &terms[0];
     match claim {
         Claim::Derived { row } => derived(sheet, row, term),
-        Claim::Contains(stretch) => {
-            let text = sheet.stretch(stretch);
-            (0..=term.len()).any(|from| term[from..].starts_with(text))
-        }
+        Claim::Contains(stretch) => contains(term, sheet.stretch(stretch)),
         Claim::Equals(_) => *term == terms[1],
+        Claim::ContainsTerm(_) => contains(term, &terms[1]),
     }
+}
+
+fn contains(word: &[u8], other: &[u8]) -> bool {
+    (0..=word.len()).any(|from| word[from..].starts_with(other))
 }
 
 /// Whether the row derives the word: facts (row, start, end) are collected until none is new.

@@ -90,6 +90,7 @@ impl Case<'_, '_> {
         for bytes in sheets {
             match Sheet::check(&bytes) {
                 Ok(sheet) => {
+                    self.comparison.tally.sheet(&sheet);
                     self.walks(&bytes, &sheet)?;
                     self.lists(&bytes, &sheet)?;
                 }
@@ -288,6 +289,7 @@ impl Case<'_, '_> {
             return Ok(());
         };
         self.comparison.tally.sort("counted");
+        self.comparison.tally.sheet(&sheet);
         let answer = |_: &Sheet, budget: u64| {
             let trials = u64::try_from(counted.trials).ok().filter(|&trials| trials <= budget)?;
             Some(Walked { trials, found: counted.found.clone() })
@@ -323,6 +325,7 @@ fn affordable(sheet: &Sheet) -> u64 {
             Claim::Derived { .. } => sheet.rows.len() as u64 * length.pow(3) / 6,
             Claim::Contains(stretch) => length * stretch.bytes as u64,
             Claim::Equals(_) => length,
+            Claim::ContainsTerm(second) => length * sheet.term_length(second) as u64,
         }
     };
     let trial: u64 = 100 + sheet.assertions.iter().map(cost).sum::<u64>();

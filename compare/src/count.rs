@@ -1,7 +1,8 @@
 //! The walk's answer where it is too long for any walk.
 //!
 //! What can still come of a prefix depends on no more than what its bytes have shown: at each place,
-//! where the stretches begin that a row derives up to there, and where a text has begun to stand.
+//! where the stretches begin that a row derives up to there, where a text has begun to stand, and
+//! where the byte agrees with a constant.
 //! That is worked out behind every letter by deriving, and letters that show the same have equal
 //! counts below them: one of them is walked, and its count is taken for the others. Assertions over
 //! joined terms and over v on both sides show the byte itself, so there each letter is walked.
@@ -115,15 +116,32 @@ struct Shown<'a> {
     rows: Vec<usize>,
     /// The place of each of them in that list, by the row's number.
     slots: Vec<Option<usize>>,
-    /// The texts of those rows, and those that v is claimed to contain.
-    texts: Vec<Stretch>,
-    /// The constants that stretches of v are compared with, and where those begin.
-    constants: Vec<(usize, Vec<u8>)>,
+    /// The texts of those rows, and those that v, or a cut of it, is claimed to contain.
+    texts: Vec<Vec<u8>>,
+    /// The constants that stretches of v are compared with.
+    constants: Vec<Constant>,
     /// Whether each byte counts as it stands.
     whole: bool,
     /// For each letter, the number of the first one that ranges and text do not tell from it.
     looks: Vec<usize>,
     nodes: Vec<Node>,
+}
+
+/// A constant that a stretch of v is claimed to equal, or to be contained in.
+struct Constant {
+    /// Where the stretch begins in v.
+    start: usize,
+    bytes: Vec<u8>,
+    /// The last of the places in it where the stretch may stand.
+    last: usize,
+}
+
+impl Constant {
+    /// The places from which the stretch agrees with it in this byte, one bit each.
+    fn agreed(&self, position: usize, byte: u8) -> u64 {
+        let Some(at) = position.checked_sub(self.start) else { return 0 };
+        (0..=self.last).filter(|from| self.bytes.get(from + at) == Some(&byte)).fold(0, with)
+    }
 }
 
 #[derive(Default)]
@@ -132,8 +150,10 @@ struct Node {
     derived: Vec<u64>,
     /// For each text, the starts from which the bytes up to this place are its first ones.
     begun: Vec<u64>,
-    /// What else the byte has shown.
-    byte: (u64, usize),
+    /// For each constant, where the byte before this place agrees with it.
+    agreed: Vec<u64>,
+    /// The byte itself where it counts as it stands, and what it looks like.
+    byte: (Option<u8>, usize),
     /// The node behind each letter, once asked for.
     children: Vec<usize>,
 }
@@ -163,16 +183,35 @@ impl<'a> Shown<'a> {
         if !assertion.terms().any(has_v) {
             return;
         }
-        let alone = self.sheet.run(assertion.term) == [Part::Whole];
+        let term = assertion.term;
+        let alone = self.sheet.run(term) == [Part::Whole];
         match assertion.claim {
             Claim::Derived { row } if alone => self.follow_row(row),
-            Claim::Contains(stretch) if alone => self.texts.push(stretch),
-            Claim::Equals(other) => match self.constant(assertion.term, other) {
-                Some(constant) => self.constants.push(constant),
-                None => self.whole = true,
+            Claim::Contains(stretch) if self.start(term).is_some() => self.follow_text(stretch),
+            Claim::Equals(second) => match (self.start(term), self.constant(second)) {
+                (Some(start), Some(bytes)) => {
+                    self.constants.push(Constant { start, bytes, last: 0 });
+                }
+                _ => self.whole = true,
             },
-            _ => self.whole = true,
+            Claim::ContainsTerm(second) => self.follow_contained(term, second),
+            Claim::Derived { .. } | Claim::Contains(_) => self.whole = true,
         }
+    }
+
+    fn follow_contained(&mut self, term: Run, second: Run) {
+        if let (Some(_), Some(bytes)) = (self.start(term), self.constant(second)) {
+            self.texts.push(bytes);
+        } else if let (Some(bytes), Some(start)) = (self.constant(term), self.start(second)) {
+            let last = bytes.len();
+            self.constants.push(Constant { start, bytes, last });
+        } else {
+            self.whole = true;
+        }
+    }
+
+    fn follow_text(&mut self, stretch: Stretch) {
+        self.texts.push(self.sheet.stretch(stretch).to_vec());
     }
 
     fn follow_row(&mut self, row: usize) {
@@ -187,24 +226,28 @@ impl<'a> Shown<'a> {
                 self.follow_row(b);
             }
             Row::Star(a) => self.follow_row(a),
-            Row::Text(stretch) => self.texts.push(stretch),
+            Row::Text(stretch) => self.follow_text(stretch),
             Row::Empty | Row::Byte { .. } => {}
         }
     }
 
-    /// Where the stretch of v begins that one term is, and the bytes that the other one is.
-    fn constant(&self, one: Run, other: Run) -> Option<(usize, Vec<u8>)> {
-        let start = match self.sheet.run(one) {
-            [Part::Whole] => 0,
-            [Part::Cut { position, .. }] => *position,
-            _ => return None,
-        };
+    /// Where the stretch of v begins that the term is.
+    fn start(&self, term: Run) -> Option<usize> {
+        match self.sheet.run(term) {
+            [Part::Whole] => Some(0),
+            [Part::Cut { position, .. }] => Some(*position),
+            _ => None,
+        }
+    }
+
+    /// The bytes that the term is at every length.
+    fn constant(&self, term: Run) -> Option<Vec<u8>> {
         let mut bytes = Vec::new();
-        for part in self.sheet.run(other) {
+        for part in self.sheet.run(term) {
             let Part::Text(stretch) = part else { return None };
             bytes.extend(self.sheet.stretch(*stretch));
         }
-        Some((start, bytes))
+        Some(bytes)
     }
 
     /// The node behind each letter after the path's prefix.
@@ -218,6 +261,7 @@ impl<'a> Shown<'a> {
                 let same = |other: &Node| {
                     node.derived == other.derived
                         && node.begun == other.begun
+                        && node.agreed == other.agreed
                         && node.byte == other.byte
                 };
                 let known = self.nodes[first..].iter().position(same);
@@ -234,19 +278,14 @@ impl<'a> Shown<'a> {
     fn node(&self, path: &[usize], letter: u8, looks: usize) -> Node {
         let end = path.len();
         let before = &self.nodes[path[end - 1]];
-        let stands = |stretch: Stretch, starts: u64| {
-            let text = self.sheet.stretch(stretch);
+        let stands = |text: &[u8], starts: u64| {
             bits(starts).filter(|start| text.get(end - 1 - start) == Some(&letter)).fold(0, with)
         };
         let begun = self.texts.iter().zip(&before.begun);
-        let begun = begun.map(|(&text, &starts)| with(stands(text, starts), end)).collect();
-        let agrees = |(start, bytes): &(usize, Vec<u8>)| {
-            (end - 1).checked_sub(*start).is_some_and(|at| bytes.get(at) == Some(&letter))
-        };
-        let agreed = self.constants.iter().map(agrees).enumerate();
-        let agreed = agreed.filter(|&(_, agrees)| agrees).map(|(i, _)| i).fold(0, with);
-        let byte = (if self.whole { letter as u64 } else { agreed }, looks);
-        let mut node = Node { begun, byte, ..Node::default() };
+        let begun = begun.map(|(text, &starts)| with(stands(text, starts), end)).collect();
+        let agreed = self.constants.iter().map(|c| c.agreed(end - 1, letter)).collect();
+        let byte = (self.whole.then_some(letter), looks);
+        let mut node = Node { begun, agreed, byte, ..Node::default() };
         self.derive(path, Some(letter), &mut node);
         node
     }
@@ -277,7 +316,8 @@ impl<'a> Shown<'a> {
                         }
                     }
                     Row::Text(stretch) => {
-                        let text = self.texts.iter().position(|&t| t == stretch);
+                        let text = self.sheet.stretch(stretch);
+                        let text = self.texts.iter().position(|followed| followed == text);
                         let begun = node.begun[text.expect("followed")];
                         end.checked_sub(stretch.bytes).map_or(0, |start| begun & with(0, start))
                     }

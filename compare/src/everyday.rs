@@ -22,7 +22,7 @@ pub fn filter() -> (Draft, u16) {
     let sign = draft.add_row(4, letter, digit);
     let signs = draft.add_row(6, sign, 0);
     let dash = draft.add_row(2, b'-' as u16, b'-' as u16);
-    let code = add_codes(&mut draft);
+    let code = add_codes(&mut draft, &CODES);
 
     // A code and groups, none of them empty.
     let dashed = draft.add_row(5, dash, sign);
@@ -44,11 +44,12 @@ pub fn filter() -> (Draft, u16) {
 }
 
 /// Any one of the codes.
-fn add_codes(draft: &mut Draft) -> u16 {
-    let rows = CODES.map(|code| {
+pub fn add_codes(draft: &mut Draft, codes: &[&[u8]]) -> u16 {
+    let mut rows = Vec::new();
+    for code in codes {
         let (from, bytes) = draft.add_text(code);
-        draft.add_row(3, from, bytes)
-    });
+        rows.push(draft.add_row(3, from, bytes));
+    }
     let or = |one: u16, other: u16| draft.add_row(4, one, other);
     rows.into_iter().reduce(or).expect("a code")
 }

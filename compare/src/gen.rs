@@ -2,6 +2,7 @@
 
 pub mod alike;
 pub mod broken;
+pub mod contained;
 pub mod damage;
 pub mod faults;
 pub mod filters;
@@ -21,12 +22,13 @@ pub fn sheets(s: &mut Seeded) -> (&'static str, Vec<Vec<u8>>) {
         2..=4 => return ("two faults", bytes(faults::two_at_once(s))),
         _ => {}
     }
-    match s.below(20) {
+    match s.below(23) {
         0..=3 => ("small", vec![small::small(s, 2).bytes()]),
         4..=8 => ("filters", vec![filters::filters(s, 7).bytes()]),
         9 => ("limits", vec![limits::limits(s).bytes()]),
         10..=12 => ("alike", vec![alike::alike(s).bytes()]),
-        13..=18 => ("damaged", (0..8).map(|_| damage::damaged(s)).collect()),
+        13..=15 => ("contained", vec![contained::contained(s, 6).bytes()]),
+        16..=21 => ("damaged", (0..8).map(|_| damage::damaged(s)).collect()),
         _ => ("random", (0..8).map(|_| damage::random_bytes(s)).collect()),
     }
 }

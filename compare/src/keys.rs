@@ -13,7 +13,8 @@ pub struct Key {
     pub line: &'static str,
 }
 
-fn key(name: &'static str, draft: Draft, budget: u64, line: &'static str) -> Key {
+/// The question that the draft asks.
+pub fn key(name: &'static str, draft: Draft, budget: u64, line: &'static str) -> Key {
     Key { name, sheet: draft.bytes(), budget, line }
 }
 
@@ -53,7 +54,8 @@ pub fn faulty() -> Vec<Key> {
     ]
 }
 
-fn over(letters: &[(u8, u8)], shortest: u16, longest: u16) -> Draft {
+/// A sheet without rows, parts and assertions.
+pub fn over(letters: &[(u8, u8)], shortest: u16, longest: u16) -> Draft {
     Draft { letters: letters.to_vec(), shortest, longest, ..Draft::default() }
 }
 

@@ -15,6 +15,7 @@ pub mod guards;
 pub mod keys;
 pub mod program;
 pub mod proved;
+pub mod regions;
 pub mod seed;
 pub mod selfcheck;
 pub mod tally;

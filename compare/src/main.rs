@@ -14,6 +14,7 @@ use compare::guards::guards;
 use compare::keys::{faulty, keys, BUDGET};
 use compare::program::line;
 use compare::proved::Proved;
+use compare::regions::regions;
 use compare::second::sheet::{LENGTH_LIMIT, SHEET_LIMIT};
 use compare::second::solve::{solve, WORK};
 use compare::selfcheck::selfcheck;
@@ -29,7 +30,7 @@ of the second program alone:
 compare self SEED COUNT              the second program against brute force
 compare solve                        one line for the sheet on standard input
 compare call TASK TIMES              calls it: SHEET, make or gate, as bench does
-compare write-keys FOLDER            the sheets of the keys, k1.sheet to k11.sheet, and faulty ones";
+compare write-keys FOLDER            the sheets of the keys, k1.sheet to k11.sheet, faulty and region ones";
 
 fn main() -> ExitCode {
     let arguments: Vec<String> = env::args().skip(1).collect();
@@ -114,7 +115,7 @@ fn run_calls(task: &str, times: &str) -> Result<(), String> {
 }
 
 fn write_keys(folder: &str) -> Result<(), String> {
-    for key in keys().into_iter().chain(faulty()) {
+    for key in keys().into_iter().chain(faulty()).chain(regions()) {
         let path = Path::new(folder).join(format!("{}.sheet", key.name));
         fs::write(path, key.sheet).map_err(|error| error.to_string())?;
     }

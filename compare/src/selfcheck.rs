@@ -2,7 +2,7 @@
 
 use std::fmt::{Debug, Display};
 
-use crate::gen::{filters, lists, small};
+use crate::gen::{contained, filters, lists, small};
 use crate::program::hex;
 use crate::second::derive::derives_word;
 use crate::second::gate::{gate, CutList};
@@ -48,8 +48,11 @@ pub fn selfcheck(seed: u64, count: u64) -> Result<Agreed, String> {
     let mut agreed = Agreed::default();
     for case in 0..count {
         let mut s = Seeded::new(seed, case);
-        let filters = s.once_in(2);
-        let draft = if filters { filters::filters(&mut s, 3) } else { small::small(&mut s, 1) };
+        let draft = match s.below(5) {
+            0..=1 => filters::filters(&mut s, 3),
+            2..=3 => small::small(&mut s, 1),
+            _ => contained::contained(&mut s, 3),
+        };
         let bytes = draft.bytes();
         let sheet = Sheet::check(&bytes).map_err(|fault| fault.to_string());
         let result = sheet.and_then(|sheet| {

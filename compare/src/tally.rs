@@ -4,6 +4,7 @@ use std::collections::BTreeMap;
 use std::fmt;
 
 use crate::second::fault::Fault;
+use crate::second::sheet::{Assertion, Claim, Sheet};
 
 /// Every number a call can answer, but for those of a sheet's fault.
 const ANSWERS: [(&str, &[u32]); 3] =
@@ -25,9 +26,14 @@ const FAULTS: [(u32, &[u32], bool); 9] = [
     (17, &[4], true),
 ];
 
+/// Every kind of assertion.
+const KINDS: [u8; 4] = [1, 2, 3, 4];
+
 #[derive(Default)]
 pub struct Tally {
     sorts: BTreeMap<&'static str, u64>,
+    /// By kind, and whether it denies.
+    assertions: BTreeMap<(u8, bool), u64>,
     /// Record 1 stands for every later one.
     answers: BTreeMap<(&'static str, Fault), u64>,
 }
@@ -36,6 +42,18 @@ impl Tally {
     /// Counts a generated case of a sort.
     pub fn sort(&mut self, sort: &'static str) {
         *self.sorts.entry(sort).or_default() += 1;
+    }
+
+    /// Counts the assertions of an accepted sheet.
+    pub fn sheet(&mut self, sheet: &Sheet) {
+        for assertion in &sheet.assertions {
+            *self.assertions.entry((kind(assertion), assertion.denied)).or_default() += 1;
+        }
+    }
+
+    /// How many assertions there were of the kind and sign.
+    pub fn assertions(&self, kind: u8, denied: bool) -> u64 {
+        self.assertions.get(&(kind, denied)).copied().unwrap_or(0)
     }
 
     /// Counts a call's answer: its number, and the table and record that it names.
@@ -62,6 +80,15 @@ impl Tally {
         }
         unmet.retain(|&(call, answer)| self.answered(call, answer) == 0);
         unmet
+    }
+}
+
+fn kind(assertion: &Assertion) -> u8 {
+    match assertion.claim {
+        Claim::Derived { .. } => 1,
+        Claim::Contains(_) => 2,
+        Claim::Equals(_) => 3,
+        Claim::ContainsTerm(_) => 4,
     }
 }
 
@@ -96,6 +123,10 @@ impl fmt::Display for Tally {
     fn fmt(&self, f: &mut fmt::Formatter<'_>) -> fmt::Result {
         for (sort, count) in &self.sorts {
             writeln!(f, "cases {sort}: {count}")?;
+        }
+        for kind in KINDS {
+            let [asserted, denied] = [false, true].map(|denied| self.assertions(kind, denied));
+            writeln!(f, "assertions of kind {kind}: {asserted} asserted, {denied} denied")?;
         }
         // A call that was made shows also what it never answered.
         let made = |call| self.answers.keys().any(|&(made, _)| made == call);

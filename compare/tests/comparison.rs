@@ -6,7 +6,7 @@ use compare::count::count;
 use compare::program::{Calls, Here, Second};
 use compare::second::fault::Fault;
 use compare::second::make::Made;
-use compare::second::sheet::Sheet;
+use compare::second::sheet::{read_u16, Sheet, ASSERTIONS, TABLES};
 use compare::second::solve::{solve_by, Solved, Walked, WORK};
 use compare::selfcheck::selfcheck;
 
@@ -21,6 +21,9 @@ fn second_program_agrees_with_itself_and_meets_every_answer() {
     let report = check(&mut Here::new(Second), 7, 0..400, None).expect("no difference");
     assert_eq!(report.cases, 400);
     assert_eq!(report.tally.unmet(), []);
+    for (kind, denied) in [1, 2, 3, 4].into_iter().flat_map(|kind| [(kind, false), (kind, true)]) {
+        assert!(report.tally.assertions(kind, denied) > 50, "{kind} {denied}");
+    }
 }
 
 /// A program that is right but for one thing.
@@ -35,6 +38,9 @@ enum Wrong {
     WordAfterTheWorkspace,
     WorkspaceNotCleared,
     RefusedWrites,
+    ContainmentRefused,
+    EqualForContained,
+    TermsExchanged,
     MakerTable,
     MakerRecord,
     ListByte,
@@ -43,9 +49,35 @@ enum Wrong {
     GateWorkspace,
 }
 
+impl Wrong {
+    /// What is wrong with an assertion of kind 4.
+    fn change(self, assertion: &mut [u8]) {
+        match self {
+            Wrong::ContainmentRefused => assertion[0] = 5,
+            Wrong::EqualForContained => assertion[0] = 3,
+            Wrong::TermsExchanged => assertion[2..10].rotate_left(4),
+            _ => {}
+        }
+    }
+
+    /// The sheet as this program reads it.
+    fn read(self, sheet: &[u8]) -> Vec<u8> {
+        let mut sheet = sheet.to_vec();
+        if Sheet::check(&sheet).is_ok() {
+            let [offset, count] = [12, 10].map(|from_end| read_u16(&sheet, sheet.len() - from_end));
+            for assertion in sheet[offset..].chunks_mut(TABLES[ASSERTIONS].record).take(count) {
+                if assertion[0] == 4 {
+                    self.change(assertion);
+                }
+            }
+        }
+        sheet
+    }
+}
+
 impl Calls for Wrong {
     fn solve(&self, sheet: &[u8], budget: u64, work: &mut [u64], out: &mut [u8]) -> Solved {
-        let mut solved = Second.solve(sheet, budget, work, out);
+        let mut solved = Second.solve(&self.read(sheet), budget, work, out);
         let after = solved.length as usize;
         match self {
             Wrong::Trials if solved.number == 1 => solved.trials += 1,
@@ -100,6 +132,9 @@ fn every_way_of_differing_is_seen() {
         Wrong::WordAfterTheWorkspace,
         Wrong::WorkspaceNotCleared,
         Wrong::RefusedWrites,
+        Wrong::ContainmentRefused,
+        Wrong::EqualForContained,
+        Wrong::TermsExchanged,
         Wrong::MakerTable,
         Wrong::MakerRecord,
         Wrong::ListByte,

@@ -1,8 +1,9 @@
-//! The paper's keys K1 to K12 and the limits listed after them.
+//! The paper's keys K1 to K12 and the limits listed after them; faulty and everyday sheets.
 
 use compare::draft::Draft;
 use compare::keys::{brackets, faulty, keys, star_of_a};
 use compare::program::line;
+use compare::regions::regions;
 use compare::second::fault::Fault;
 use compare::second::gate::gate;
 use compare::second::make::{make, Made};
@@ -16,7 +17,7 @@ fn answer(sheet: &[u8], budget: u64) -> String {
 
 #[test]
 fn solver_keys() {
-    for key in keys().into_iter().chain(faulty()) {
+    for key in keys().into_iter().chain(faulty()).chain(regions()) {
         assert_eq!(answer(&key.sheet, key.budget), key.line, "{}", key.name);
     }
 }
@@ -81,17 +82,34 @@ fn longest_length_between_count_and_offset() {
 
 #[test]
 fn longest_term() {
-    let term_of = |bytes: u16, second: bool| {
+    let term_of = |bytes: u16, kind: u8, second: bool| {
         let mut draft = one_letter(0, 0);
         draft.add_part(3, 0, bytes);
         let (none, long) = ((0, 0), (0, 1));
         let (first, other) = if second { (none, long) } else { (long, none) };
-        draft.assert((3, 1), first, other);
+        draft.assert((kind, 1), first, other);
         answer(&draft.bytes(), 100)
     };
-    for second in [false, true] {
-        assert_eq!(term_of(60, second), "none 1");
-        assert_eq!(term_of(61, second), "refused 17 4 0");
+    for (kind, second) in [(3, false), (3, true), (4, false), (4, true)] {
+        assert_eq!(term_of(60, kind, second), "none 1");
+        assert_eq!(term_of(61, kind, second), "refused 17 4 0");
+    }
+}
+
+/// A term with v in it is as long as at the longest length, whatever the length in hand.
+#[test]
+fn longest_second_term() {
+    let text_and_v = |bytes: usize, kind: u8| {
+        let mut draft = one_letter(0, 20);
+        let (from, bytes) = draft.add_text(&vec![b'a'; bytes]);
+        let term = draft.add_part(1, from, bytes);
+        draft.add_part(2, 0, 0);
+        draft.assert((kind, 1), (term, 0), (term, 2));
+        answer(&draft.bytes(), 100)
+    };
+    for kind in [3, 4] {
+        assert_eq!(text_and_v(40, kind), "found 0 1 -");
+        assert_eq!(text_and_v(41, kind), "refused 17 4 0");
     }
 }
 

@@ -37,6 +37,7 @@ fn every_kind() -> Draft {
     draft.parts.extend([(1, 2, 2), (3, 1, 2)]);
     draft.assert((2, 1), (0, 3), (0, 4));
     draft.assert((3, 0), (0, 1), (1, 2));
+    draft.assert((4, 1), (1, 2), (0, 2));
     draft
 }
 
@@ -126,9 +127,9 @@ fn parts_and_assertions() {
     assert_eq!(changed(|draft| draft.parts[1] = (3, 65_535, 0)), ACCEPTED);
     assert_eq!(changed(|draft| draft.parts[1] = (3, 0, 65_535)), (17, ASSERTIONS, 1));
     type Fields = ((u8, u8), (u16, u16), (u16, u16));
-    let fields: [Fields; 13] = [
+    let fields: [Fields; 16] = [
         ((0, 0), (0, 0), (0, 0)),
-        ((4, 0), (0, 0), (0, 0)),
+        ((5, 0), (0, 0), (0, 0)),
         ((1, 2), (0, 0), (0, 0)),
         ((1, 0), (3, 1), (0, 0)),
         ((1, 0), (4, 0), (0, 0)),
@@ -140,17 +141,24 @@ fn parts_and_assertions() {
         ((3, 0), (0, 0), (0, 4)),
         ((3, 0), (0, 0), (4, 0)),
         ((3, 0), (65_535, 65_535), (0, 0)),
+        ((4, 0), (0, 0), (1, 3)),
+        ((4, 1), (0, 0), (4, 0)),
+        ((4, 0), (2, 2), (0, 0)),
     ];
     for (kind_and_sign, term, about) in fields {
         let last = changed(|draft| draft.assert(kind_and_sign, term, about));
-        assert_eq!(last, (16, ASSERTIONS, 3), "{kind_and_sign:?} {term:?} {about:?}");
+        assert_eq!(last, (16, ASSERTIONS, 4), "{kind_and_sign:?} {term:?} {about:?}");
         let first = changed(|draft| {
             draft.assert(kind_and_sign, term, about);
-            draft.assertions.swap(0, 3);
+            draft.assertions.swap(0, 4);
         });
         assert_eq!(first, (16, ASSERTIONS, 0), "{kind_and_sign:?} {term:?} {about:?}");
     }
-    assert_eq!(changed(|draft| draft.assert((3, 1), (3, 0), (3, 0))), ACCEPTED);
+    for kind in [3, 4] {
+        for run in [(3, 0), (0, 3), (2, 1)] {
+            assert_eq!(changed(|draft| draft.assert((kind, 1), (3, 0), run)), ACCEPTED);
+        }
+    }
 }
 
 #[test]
@@ -195,18 +203,20 @@ fn first_in_table_order() {
 /// A long term of the last assertion is told only where no record is broken.
 #[test]
 fn terms_after_records() {
-    let long = |draft: &mut Draft| {
-        let long = draft.add_part(3, 0, 61);
-        draft.assert((2, 0), (0, 0), (0, 0));
-        draft.assert((3, 0), (0, 0), (long, 1));
-        draft.assert((1, 0), (long, 1), (0, 0));
-    };
-    assert_eq!(changed(long), (17, ASSERTIONS, 4));
-    let broken_too = changed(|draft| {
-        long(draft);
-        draft.assertions[5].sign = 2;
-    });
-    assert_eq!(broken_too, (16, ASSERTIONS, 5));
+    for kind in [3, 4] {
+        let long = |draft: &mut Draft| {
+            let long = draft.add_part(3, 0, 61);
+            draft.assert((2, 0), (0, 0), (0, 0));
+            draft.assert((kind, 0), (0, 0), (long, 1));
+            draft.assert((1, 0), (long, 1), (0, 0));
+        };
+        assert_eq!(changed(long), (17, ASSERTIONS, 5));
+        let broken_too = changed(|draft| {
+            long(draft);
+            draft.assertions[6].sign = 2;
+        });
+        assert_eq!(broken_too, (16, ASSERTIONS, 6));
+    }
 }
 
 /// Many sheets with faults in known places: the first is told, by solver and maker alike.

@@ -7,6 +7,7 @@ use compare::count::count;
 use compare::everyday;
 use compare::keys::{faulty, keys, BUDGET};
 use compare::program::line;
+use compare::regions::regions;
 use compare::second::gate::gate;
 use compare::second::sheet::{read_u16, Sheet, TABLES};
 use compare::second::solve::{solve, WORK};
@@ -69,7 +70,7 @@ fn asked_back() {
 
 #[test]
 fn kept_keys() {
-    for key in keys().into_iter().chain(faulty()) {
+    for key in keys().into_iter().chain(faulty()).chain(regions()) {
         assert_eq!(sheet(key.name), key.sheet, "{}", key.name);
     }
 }

@@ -42,13 +42,14 @@ fn draft(s: &mut Seeded, letters: &[(u8, u8)], most: usize) -> Draft {
     };
     draft.add_part(2, 0, 0);
     for _ in 0..s.between(1, 2) {
-        match s.below(6) {
+        match s.below(8) {
             0 => told_by_range(s, &mut draft),
             1 => told_by_byte(s, &mut draft),
             2 => told_by_v(s, &mut draft),
             3 => told_by_nothing(s, &mut draft),
             4 => told_by_case(s, &mut draft),
-            _ => told_by_unused(s, &mut draft),
+            5 => told_by_unused(s, &mut draft),
+            _ => told_by_containment(s, &mut draft),
         }
     }
     if s.once_in(2) {
@@ -122,6 +123,34 @@ fn told_by_v(s: &mut Seeded, draft: &mut Draft) {
         let other = draft.add_part(3, s.below(longest + 1) as u16, 1);
         draft.assert((3, sign), (one, 1), (other, 1));
     }
+}
+
+/// A constant within v or within a cut of it, these within a constant, or v within v.
+fn told_by_containment(s: &mut Seeded, draft: &mut Draft) {
+    let (one, other) = (add_stretch(s, draft), add_stretch(s, draft));
+    let (first, count) = (draft.parts.len() as u16, s.between(1, 2) as u16);
+    for _ in 0..count {
+        let word: Vec<u8> = (0..s.between(1, 3)).map(|_| letter(s, draft)).collect();
+        let (from, bytes) = draft.add_text(&word);
+        draft.add_part(1, from, bytes);
+    }
+    let (term, second) = match s.below(6) {
+        0..=1 => ((one, 1), (first, count)),
+        2..=3 => ((first, count), (one, 1)),
+        // With some of the constant joined to it.
+        4 if draft.longest <= 50 => ((other, 2), (first + 1, count - 1)),
+        _ => ((one, 1), (other, 1)),
+    };
+    draft.assert((4, s.below(2) as u8), term, second);
+}
+
+/// Adds v or a cut of it as a part.
+fn add_stretch(s: &mut Seeded, draft: &mut Draft) -> u16 {
+    if s.once_in(2) {
+        return draft.add_part(2, 0, 0);
+    }
+    let longest = draft.longest as usize;
+    draft.add_part(3, s.below(longest + 1) as u16, s.between(1, longest.min(3)) as u16)
 }
 
 /// A letter and the same in the other case, which are two bytes as any others are; whole rows of

@@ -81,13 +81,13 @@ fn part(s: &mut Seeded, draft: &Draft) -> Record {
 
 fn statement(s: &mut Seeded, draft: &Draft) -> Statement {
     let [_, text, rows, parts, _] = draft.counts().map(|count| count as u16);
-    let kind = s.pick(&[0, 1, 1, 2, 2, 3, 3, 4]);
+    let kind = s.pick(&[0, 1, 1, 2, 2, 3, 3, 4, 4, 5]);
     let sign = s.pick(&[0, 0, 0, 1, 1, 1, 2, 255]);
     let (first, count) = if s.once_in(3) { past(s, parts) } else { (0, 0) };
     let (a, b) = match kind {
         1 => s.pick(&[(rows, 0), (rows.saturating_sub(1), 0), (0, 1), (0, 256), (65_535, 0)]),
         2 => past(s, text),
-        3 => past(s, parts),
+        3 | 4 => past(s, parts),
         _ => (0, 0),
     };
     Statement { kind, sign, first, count, a, b }

@@ -1,6 +1,11 @@
 //! Damaged sheets: one fault, or two so that the order of refusals shows.
 
-use super::{alike::alike, broken::break_record, filters::filters, limits::limits, small::small};
+use super::alike::alike;
+use super::broken::break_record;
+use super::contained::contained;
+use super::filters::filters;
+use super::limits::limits;
+use super::small::small;
 use crate::draft::Draft;
 use crate::second::sheet::{read_u16, MARK, SHEET_LIMIT, TABLES, TRAILER};
 use crate::seed::Seeded;
@@ -9,10 +14,11 @@ use crate::seed::Seeded;
 const TOTAL: usize = 24;
 
 pub fn damaged(s: &mut Seeded) -> Vec<u8> {
-    let mut draft = match s.below(5) {
+    let mut draft = match s.below(6) {
         0 => limits(s),
         1 => alike(s),
         2 => filters(s, 5),
+        3 => contained(s, 4),
         _ => small(s, 2),
     };
     let faults = s.between(1, 2);
@@ -78,9 +84,10 @@ fn damage_draft(s: &mut Seeded, draft: &mut Draft) {
 fn add_long_term(s: &mut Seeded, draft: &mut Draft) {
     let bytes = s.pick(&[60, 61, 62, 65_535]);
     let term = (draft.add_part(3, s.below(3) as u16, bytes), 1);
+    let kind = s.pick(&[3, 4]);
     match s.below(4) {
-        0 => draft.assert((3, 0), (0, 0), term),
-        1 => draft.assert((3, 1), term, (0, 0)),
+        0 => draft.assert((kind, 0), (0, 0), term),
+        1 => draft.assert((kind, 1), term, (0, 0)),
         2 => draft.assert((2, 0), term, (0, 0)),
         // A part that no assertion uses may be of any length.
         _ => {}

@@ -85,10 +85,11 @@ impl Base {
 
     fn asserted(mut self, s: &mut Seeded) -> Base {
         let (term, sign) = (self.short_term(s), s.below(2) as u8);
-        let (kind, about) = match s.below(3) {
+        let (kind, about) = match s.below(4) {
             0 => (1, (s.below(self.draft.rows.len()) as u16, 0)),
             1 => (2, stretch(s, self.draft.text.len(), 2)),
-            _ => (3, self.short_term(s)),
+            2 => (3, self.short_term(s)),
+            _ => (4, self.short_term(s)),
         };
         self.draft.assert((kind, sign), term, about);
         self
@@ -141,7 +142,7 @@ impl Base {
         if s.once_in(2) {
             (statement.first, statement.count) = (self.long, 1);
         } else {
-            (statement.kind, statement.a, statement.b) = (3, self.long, 1);
+            (statement.kind, statement.a, statement.b) = (s.pick(&[3, 4]), self.long, 1);
         }
     }
 }

@@ -1,6 +1,7 @@
 //! Sheets with grammars that derive many words, asserted and denied together: their walks go deep,
 //! turn back often, and end both ways.
 
+use super::contained::add_containment;
 use super::small::{add_assertion, add_word_comparison, run, stretch};
 use crate::draft::Draft;
 use crate::seed::Seeded;
@@ -97,6 +98,9 @@ fn add_others(s: &mut Seeded, draft: &mut Draft, v: u16) {
         let one = draft.add_part(3, s.below(draft.longest as usize) as u16, 1);
         let other = draft.add_part(3, s.below(draft.longest as usize) as u16, 1);
         draft.assert((3, s.below(2) as u8), (one, 1), (other, 1));
+    }
+    if s.once_in(3) {
+        add_containment(s, draft);
     }
     if s.once_in(6) {
         let term = run(s, draft, 3);

@@ -100,7 +100,7 @@ fn add_assertions(s: &mut Seeded, draft: &mut Draft, count: usize) {
 fn add_easy_assertion(s: &mut Seeded, draft: &mut Draft) {
     let (v, sixty) = ((0, 1), (0, 2));
     let any_row = s.below(draft.rows.len()) as u16;
-    match s.below(8) {
+    match s.below(11) {
         0 => draft.assert((2, 0), v, (s.between(0, draft.text.len()) as u16, 0)),
         1 => draft.assert((3, 0), sixty, sixty),
         2 => {
@@ -114,6 +114,12 @@ fn add_easy_assertion(s: &mut Seeded, draft: &mut Draft) {
         4 => draft.assert((1, 0), sixty, (1, 0)),
         5 => draft.assert((1, 1), sixty, (any_row, 0)),
         6 => draft.assert((1, 0), v, (any_row, 0)),
+        7 => draft.assert((4, 0), sixty, s.pick(&[v, sixty, (0, 0)])),
+        8 => draft.assert((4, 1), v, sixty),
+        9 => {
+            let other = run(s, draft, 3);
+            draft.assert((4, 1), sixty, other);
+        }
         _ => draft.assert((1, 0), v, (1, 0)),
     }
 }

@@ -1,5 +1,6 @@
 //! Small valid sheets, and the records that other sorts use too.
 
+use super::contained::add_containment;
 use crate::draft::{Draft, Record};
 use crate::seed::Seeded;
 
@@ -32,6 +33,9 @@ pub fn small(s: &mut Seeded, scale: usize) -> Draft {
     }
     if s.once_in(3) {
         add_word_comparison(s, &mut draft);
+    }
+    if s.once_in(4) {
+        add_containment(s, &mut draft);
     }
     draft
 }
@@ -114,10 +118,11 @@ pub fn add_assertion(s: &mut Seeded, draft: &mut Draft) {
         _ => run(s, draft, 3),
     };
     let sign = s.once_in(3) as u8;
-    let (kind, about) = match s.below(8) {
+    let (kind, about) = match s.below(10) {
         0..=3 if !draft.rows.is_empty() => (1, (s.below(draft.rows.len()) as u16, 0)),
         0..=5 => (2, stretch(s, draft.text.len(), 2)),
-        _ => (3, run(s, draft, 2)),
+        6..=7 => (3, run(s, draft, 2)),
+        _ => (4, run(s, draft, 2)),
     };
     draft.assert((kind, sign), term, about);
 }

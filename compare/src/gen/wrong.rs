@@ -79,7 +79,7 @@ fn wrong_assertion(record: &[u8], text: usize, rows: usize, parts: usize) -> Vec
         2 => past(record, 6, text),
         _ => past(record, 6, parts),
     };
-    let ends = vec![Field::Byte(0, 0), Field::Byte(0, 4), Field::Byte(1, 2), Field::Word(10, 1)];
+    let ends = vec![Field::Byte(0, 0), Field::Byte(0, 5), Field::Byte(1, 2), Field::Word(10, 1)];
     [ends, words(2, past(record, 2, parts)), words(6, pair)].concat()
 }
 

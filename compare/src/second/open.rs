@@ -50,6 +50,10 @@ fn can_hold(sheet: &Sheet, claim: Claim, terms: &[Vec<Place>]) -> bool {
             text.is_empty() || term.windows(text.len()).any(|w| can_read(sheet, w, text))
         }
         Claim::Equals(_) => can_equal(sheet, term, &terms[1]),
+        Claim::ContainsTerm(_) => {
+            let second = &terms[1];
+            second.is_empty() || term.windows(second.len()).any(|w| can_equal(sheet, w, second))
+        }
     }
 }
 

@@ -69,6 +69,7 @@ pub enum Claim {
     Derived { row: usize },
     Contains(Stretch),
     Equals(Run),
+    ContainsTerm(Run),
 }
 
 #[derive(Clone, Copy, PartialEq, Eq, Debug)]
@@ -134,8 +135,8 @@ impl Assertion {
     /// Its term, and its second term if it compares two.
     pub fn terms(&self) -> impl Iterator<Item = Run> {
         let second = match self.claim {
-            Claim::Equals(run) => Some(run),
-            _ => None,
+            Claim::Equals(run) | Claim::ContainsTerm(run) => Some(run),
+            Claim::Derived { .. } | Claim::Contains(_) => None,
         };
         std::iter::once(self.term).chain(second)
     }
@@ -276,6 +277,7 @@ fn assertion(record: &[u8], text: usize, rows: usize, parts: usize) -> Option<As
         1 if a < rows && b == 0 => Claim::Derived { row: a },
         2 if a + b <= text => Claim::Contains(Stretch { from: a, bytes: b }),
         3 if a + b <= parts => Claim::Equals(Run { first: a, count: b }),
+        4 if a + b <= parts => Claim::ContainsTerm(Run { first: a, count: b }),
         _ => return None,
     };
     Some(Assertion { denied: record[1] == 1, term: Run { first, count }, claim })
