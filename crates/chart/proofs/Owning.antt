@@ -171,42 +171,28 @@ no-holds x = go x (leb 1 x) refl
 
 -- ---- texts
 
-module _ (S : Sheet) (lay places : List ℕ) (ground : Ground S lay) (i off m : ℕ) (inside : off + m ≤ length (S .grammar .text)) (room : i + m ≤ length places) where
-  held : (k : ℕ) → k < m
-      → canHold lay (getD places (i + k) 0) (off + k) (getD (take m (drop off (S .grammar .text))) k 0)
-      ≡ pattern S (placesIn places) (i + k) (getD (take m (drop off (S .grammar .text))) k 0)
+module _ (S : Sheet) (lay places : List ℕ) (ground : Ground S lay) where
+  held : (k : ℕ) → k < length places → (b : ℕ) → canHold lay (getD places k 0) b ≡ pattern S (placesIn places) k b
   unfolding canHold
-  held k h =
-      let b : getD (take m (drop off (S .grammar .text))) k 0 ≡ getD (S .grammar .text) (off + k) 0 = getD-take m (drop off (S .grammar .text)) k 0 h ∙ getD-drop off (S .grammar .text) k 0 in
-      rw b (go (decLt (getD places (i + k) 0) 256))
+  held k h b = go (decLt (getD places k 0) 256)
     where
-      go : Dec (getD places (i + k) 0 < 256)
-          → cond (ltb (getD places (i + k) 0) 256) (eqb (getD (S .grammar .text) (off + k) 0) (getD places (i + k) 0)) (bitAt lay (258 + (off + k) / 256) ((off + k) % 256))
-          ≡ pattern S (placesIn places) (i + k) (getD (S .grammar .text) (off + k) 0)
-      go (yes l) = rw (lt-ltb (getD places (i + k) 0) 256 l) (sym (known-place S places (i + k) (omega arith) l (getD (S .grammar .text) (off + k) 0)))
-      go (no l) =
-          rw (le-ltb (getD places (i + k) 0) 256 (omega arith))
-          (ground .texts (off + k) (omega arith) ∙ sym (unknown-place S places (i + k) (omega arith) (omega arith) (getD (S .grammar .text) (off + k) 0)))
+      go : Dec (getD places k 0 < 256) → cond (ltb (getD places k 0) 256) (eqb b (getD places k 0)) (bitAt lay 258 b) ≡ pattern S (placesIn places) k b
+      go (yes l) = rw (lt-ltb (getD places k 0) 256 l) (sym (known-place S places k h l b))
+      go (no l) = rw (le-ltb (getD places k 0) 256 (omega arith)) (ground .letters b ∙ sym (unknown-place S places k h (omega arith) b))
 
-  part-long : length (take m (drop off (S .grammar .text))) ≡ m
-  part-long = length-take-le m (drop off (S .grammar .text)) (rw length-drop (omega arith))
-
-  pub text-held : canHoldAll lay places i off (take m (drop off (S .grammar .text))) ≡ fits (pattern S (placesIn places)) i (stretch 0 (S .grammar .text) off m)
+  -- places can hold bytes where these fit
+  word-held : (i : ℕ) (w : List ℕ) → i + length w ≤ length places → canHoldAll lay places i w ≡ fits (pattern S (placesIn places)) i w
   unfolding canHoldAll
-  text-held =
-      rw (stretch-part (S .grammar .text) off m inside, part-long)
-      (same-test _ _
-      (λ e. at-fits pat i part (λ p l. let h : p < m = rw part-long at l in sym (held p h) ∙ all-elim m f e p h))
-      (λ e. all-intro m f (λ p l. held p l ∙ fits-at pat i part e p (rw part-long l))))
-    where
-      part : List ℕ
-      part = take m (drop off (S .grammar .text))
+  word-held i w room =
+      same-test _ _
+      (λ e. at-fits (pattern S (placesIn places)) i w (λ p l. sym (held (i + p) (omega arith) (getD w p 0)) ∙ all-elim (length w) _ e p l))
+      (λ e. all-intro (length w) _ (λ p l. held (i + p) (omega arith) (getD w p 0) ∙ fits-at (pattern S (placesIn places)) i w e p l))
 
-      pat : Pattern
-      pat = pattern S (placesIn places)
-
-      f : ℕ → Bool
-      f k = canHold lay (getD places (i + k) 0) (off + k) (getD part k 0)
+  pub text-held : (i off m : ℕ) → off + m ≤ length (S .grammar .text) → i + m ≤ length places
+      → canHoldAll lay places i (take m (drop off (S .grammar .text))) ≡ fits (pattern S (placesIn places)) i (stretch 0 (S .grammar .text) off m)
+  text-held i off m inside room =
+      let l = length-take-le m (drop off (S .grammar .text)) (rw length-drop (omega arith)) in
+      rw (stretch-part (S .grammar .text) off m inside) (word-held i (take m (drop off (S .grammar .text))) (omega arith))
 
 -- no text row of m bytes
 pub no-text : (S : Sheet) (lay : List ℕ) → Ground S lay → (pat : Pattern) (m i : ℕ) → m ≤ 60 → bit (getD lay lengthsAt 0) m ≢ 1 → (r : ℕ)

@@ -27,25 +27,6 @@ use Rattle.chart.proofs.Owning.{among-no, among-all, letter-held, no-ho
 
 -- ---- a part of the text
 
--- the bit of byte k in its word
-pub text-word : (lay : List ℕ) (k : ℕ) → eqb (bitAnd (getD lay (1032 + k / 64) 0 / 2 ^ (k % 64)) 1) 1 ≡ bitAt lay (258 + k / 256) (k % 256)
-text-word lay k =
-    let i : 1032 + k / 64 ≡ 4 * (258 + k / 256) + k % 256 / 64 = omega arith in
-    let j : k % 64 ≡ k % 256 % 64 = omega arith in
-    rw (i, j) (test-is lay (258 + k / 256) (k % 256) (omega arith))
-
-module _ (lay places : List ℕ) (i off : ℕ) (part : List ℕ) where
-  pub part-fails : (k : ℕ) → k < length part → canHold lay (getD places (i + k) 0) (off + k) (getD part k 0) ≡ false → canHoldAll lay places i off part ≡ false
-  unfolding canHoldAll
-  part-fails k h e = go (true-or-false (allBelow (length part) f))
-    where
-      f : ℕ → Bool
-      f k = canHold lay (getD places (i + k) 0) (off + k) (getD part k 0)
-
-      go : (allBelow (length part) f ≡ true) ⊎ (allBelow (length part) f ≡ false) → allBelow (length part) f ≡ false
-      go (inl p) = absurd (true≢false (sym (all-elim (length part) f p k h) ∙ e))
-      go (inr p) = p
-
 pub part-size : (text : List ℕ) (a m : ℕ) → a + m ≤ length text → length (take (a + m - a) (drop a text)) ≡ m
 part-size text a m h = length-take-le (a + m - a) (drop a text) (rw length-drop (omega arith)) ∙ omega arith
 
@@ -65,20 +46,20 @@ module _ (s places : List ℕ) (n : ℕ) (all : n ≡ length (grammarOf s .rows)
   texts-passed pat m i r = rw all (among-all (grammarOf s) (fitting (textOf s) pat m i) r refl)
 
 -- no range holds a letter, so none holds this one
-pub no-holding : (s lay : List ℕ) → Ground (sheetOf s) lay → (x n : ℕ) → noRange s lay x ≡ true → n ≤ 256 → (r : ℕ) → among (grammarOf s) (holding x) n r ≡ false
+pub no-holding : (s lay : List ℕ) → Ground (sheetOf s) lay → (x n : ℕ) → noRange lay x ≡ true → n ≤ 256 → (r : ℕ) → among (grammarOf s) (holding x) n r ≡ false
 unfolding noRange sheetOf
 no-holding s lay ground x n e few = among-no (grammarOf s) (holding x) n (λ r l. go r l (true-or-false (holding x (row (grammarOf s) r))))
   where
     go : (r : ℕ) → r < n → (holding x (row (grammarOf s) r) ≡ true) ⊎ (holding x (row (grammarOf s) r) ≡ false) → holding x (row (grammarOf s) r) ≡ false
     go r l (inl y) =
-        let held = letter-held (sheetOf s) x (and-right (noneAt lay 257) _ e) (row (grammarOf s) r) y in
+        let held = letter-held (sheetOf s) x (sym (ground .letters x) ∙ and-right (noneAt lay 257) _ e) (row (grammarOf s) r) y in
         absurd (true≢false (sym held ∙ sym (ground .ranges r (omega arith)) ∙ none-bit lay 257 (and-left (noneAt lay 257) _ e) r))
     go r l (inr y) = y
 
 module _ (s lay places : List ℕ) (ground : Ground (sheetOf s) lay) where
   -- a part of the text can be held where its bytes fit
   pub part-fits : Good s → (i a m : ℕ) (text : List ℕ) → text ≡ textOf s → a + m ≤ countOf s 1 → i + m ≤ length places
-      → canHoldAll lay places i a (take (a + m - a) (drop a text)) ≡ fits (allowed s places) i (stretch 0 (textOf s) a m)
+      → canHoldAll lay places i (take (a + m - a) (drop a text)) ≡ fits (allowed s places) i (stretch 0 (textOf s) a m)
   unfolding sheetOf grammarOf
   part-fits g i a m text p h room =
       let q : a + m - a ≡ m = omega arith in

@@ -35,8 +35,8 @@ unfoldable pub holding : ℕ → Row → Bool
 holding x r = holdsByte r x
 
 -- the byte x is a letter, and no range holds one
-unfoldable pub noRange : (s lay : List ℕ) → ℕ → Bool
-noRange s lay x = noneAt lay 257 && letter (sheetOf s) x
+unfoldable pub noRange : List ℕ → ℕ → Bool
+noRange lay x = noneAt lay 257 && bitAt lay 258 x
 
 -- a range, of one byte, with a byte that is allowed at place i
 unfoldable pub ranged : Pattern → (m i : ℕ) → Row → Bool
@@ -73,13 +73,13 @@ among g f n r = ltb r n && f (row g r)
 unfoldable pub passing : Grammar → (Row → Bool) → ℕ → Bool
 passing g f r = f (row g r)
 
--- the place x can hold the text's byte b, which stands at k in the text
-unfoldable pub canHold : List ℕ → (x k b : ℕ) → Bool
-canHold lay x k b = cond (ltb x 256) (eqb b x) (bitAt lay (258 + k / 256) (k % 256))
+-- the place x can hold the byte b
+unfoldable pub canHold : List ℕ → (x b : ℕ) → Bool
+canHold lay x b = cond (ltb x 256) (eqb b x) (bitAt lay 258 b)
 
--- the places from i on can hold a part of the text, which stands at `off` in it
-unfoldable pub canHoldAll : (lay places : List ℕ) (i off : ℕ) → List ℕ → Bool
-canHoldAll lay places i off part = allBelow (length part) (λ k. canHold lay (getD places (i + k) 0) (off + k) (getD part k 0))
+-- the places from i on can hold the bytes of a part of the text
+unfoldable pub canHoldAll : (lay places : List ℕ) (i : ℕ) → List ℕ → Bool
+canHoldAll lay places i part = allBelow (length part) (λ k. canHold lay (getD places (i + k) 0) (getD part k 0))
 
 -- ---- the table
 

@@ -31,12 +31,12 @@ fn holds(r: Row, x: usize) -> bool
 }
 
 // Whether the byte x is a letter and no range holds one: then none holds x.
-fn no_range(s: &[u8], lay: &[u64], x: usize) -> bool
-    requires { ⌜ Good (now s) × (1048 ≤ length (now lay)) × (x < 256) ⌝ }
-    ensures { λ r. ⌜ r ≡ noRange (now (s .entry)) (now (lay .entry)) x ⌝ }
+fn no_range(lay: &[u64], x: usize) -> bool
+    requires { ⌜ (1036 ≤ length (now lay)) × (x < 256) ⌝ }
+    ensures { λ r. ⌜ r ≡ noRange (now (lay .entry)) x ⌝ }
 {
     if workspace::none(lay, 257) {
-        return sheet::is_letter(s, x as u8);
+        return groundwork::is_letter(lay, x);
     }
     false
 }
@@ -46,7 +46,7 @@ fn ranges(s: &[u8], rows: Table, lay: &[u64], x: usize, work: &mut [u64], sp: us
     requires { ⌜ Good (now s) × TableOf (now s) 2 rows × Ground (sheetOf (now s)) (now lay) × (x < 256) × (sp < 1891) × (7564 ≤ length (now work)) ⌝ }
     ensures { λ _. ⌜ Adds sp (among (grammarOf (now (s .entry))) (holding x) (rows .count)) (now (work .entry)) (now (work .exit)) ⌝ }
 {
-    if no_range(s, lay, x) {
+    if no_range(lay, x) {
         return;
     }
     let mut q = 0;
@@ -82,28 +82,27 @@ pub fn singles(
     workspace::join(work, sp, lay, 257);
 }
 
-// Whether the place x can hold the byte b, which stands at k in the sheet's text.
-fn can_hold(lay: &[u64], x: usize, k: usize, b: usize) -> bool
-    requires { ⌜ (k < 1024) × (1048 ≤ length (now lay)) ⌝ }
-    ensures { λ r. ⌜ r ≡ canHold (now (lay .entry)) x k b ⌝ }
+// Whether the place x can hold the byte b.
+fn can_hold(lay: &[u64], x: usize, b: usize) -> bool
+    requires { ⌜ (b < 256) × (1036 ≤ length (now lay)) ⌝ }
+    ensures { λ r. ⌜ r ≡ canHold (now (lay .entry)) x b ⌝ }
 {
     if x < 256 {
         return b == x;
     }
-    // Entries 258 to 261 are 16 words side by side, and k the bit.
-    (lay[1032 + k / 64] >> (k % 64)) & 1 == 1
+    groundwork::is_letter(lay, b)
 }
 
-// Whether the places from i on can hold a part of the sheet's text, which stands at `off` in it.
-pub fn can_hold_all(part: &[u8], off: usize, places: &[u16], i: usize, lay: &[u64]) -> bool
-    requires { ⌜ (off + length (now part) ≤ 1024) × (i + length (now part) ≤ length (now places)) × (1048 ≤ length (now lay)) ⌝ }
-    ensures { λ r. ⌜ r ≡ canHoldAll (now (lay .entry)) (now (places .entry)) i off (now (part .entry)) ⌝ }
+// Whether the places from i on can hold the bytes of a part of the sheet's text.
+pub fn can_hold_all(part: &[u8], places: &[u16], i: usize, lay: &[u64]) -> bool
+    requires { ⌜ (i + length (now part) ≤ length (now places)) × (1036 ≤ length (now lay)) ⌝ }
+    ensures { λ r. ⌜ r ≡ canHoldAll (now (lay .entry)) (now (places .entry)) i (now (part .entry)) ⌝ }
 {
     let mut k = 0;
     while k < part.len() {
         let b = part[k] as usize;
         let x = places[i + k] as usize;
-        if can_hold(lay, x, off + k, b) {
+        if can_hold(lay, x, b) {
             k += 1;
         } else {
             return false;
@@ -132,7 +131,7 @@ fn text_fits(
                 return false;
             }
             let e = a + len;
-            can_hold_all(&text[a..e], a, places, i, lay)
+            can_hold_all(&text[a..e], places, i, lay)
         }
         Row::Empty => false,
         Row::Range(_, _) => false,
@@ -144,10 +143,10 @@ fn text_fits(
 
 // Whether some text row has m bytes.
 fn has_length(lay: &[u64], m: usize) -> bool
-    requires { ⌜ (m ≤ 60) × (length (now lay) ≡ 1306) ⌝ }
+    requires { ⌜ (m ≤ 60) × (length (now lay) ≡ 1294) ⌝ }
     ensures { λ r. ⌜ r ≡ eqb (bit (getD (now (lay .entry)) lengthsAt 0) m) 1 ⌝ }
 {
-    (lay[1304] >> m) & 1 == 1
+    (lay[1292] >> m) & 1 == 1
 }
 
 // The texts of m bytes that fit the places from i on, into their span.

@@ -31,10 +31,10 @@ fn pairs(lay: &[u64], work: &mut [u64], left: usize, right: usize, sp: usize)
     requires { ⌜ Pairs (now lay) × (left < 1891) × (right < 1891) × (sp < 1891) × (left ≢ sp) × (right ≢ sp) × (7564 ≤ length (now work)) ⌝ }
     ensures { λ _. ⌜ Adds sp (paired (now (lay .entry)) (now (work .entry)) left right (getD (now (lay .entry)) countAt 0)) (now (work .entry)) (now (work .exit)) ⌝ }
 {
-    let n = lay[1305] as usize;
+    let n = lay[1293] as usize;
     let mut j = 0;
     while j < n {
-        let x = lay[1048 + j] as usize;
+        let x = lay[1036 + j] as usize;
         let on = both(work, left, right, x);
         put(work, sp, x % 256, on);
         j += 1;
@@ -61,7 +61,7 @@ pub fn splits(lay: &[u64], work: &mut [u64], i: usize, m: usize, sp: usize)
     requires { ⌜ Pairs (now lay) × (i + m ≤ 60) × (sp ≡ spanAt i m) × (7564 ≤ length (now work)) ⌝ }
     ensures { λ _. ⌜ Adds sp (parted (now (lay .entry)) (now (work .entry)) i m (m - 1)) (now (work .entry)) (now (work .exit)) ⌝ }
 {
-    if lay[1305] == 0 {
+    if lay[1293] == 0 {
         return;
     }
     if m < 2 {

@@ -55,22 +55,22 @@ star-only {q} {a = a} c d h = go (splits-which h)
     go (inl e) = absurd (let z : _≡_ {A = ℕ} 0 1 = cc in omega arith)
     go (inr e) = let p = e .0 in (cc, e .1)
 
-module _ (ws : List ℕ) (q j a b x : ℕ) (hq : q < 256) (ha : a < 256) (hb : b < 256) (room : 1048 + j < length ws) (is : x ≡ pairWord q a b) where
-  paired-by : {r : Row} → Splits q r a b → ((c d : ℕ) → Splits q r c d → (c ≡ a) × (d ≡ b)) → Paired q r j (j + 1) ws (set ws (1048 + j) x)
+module _ (ws : List ℕ) (q j a b x : ℕ) (hq : q < 256) (ha : a < 256) (hb : b < 256) (room : 1036 + j < length ws) (is : x ≡ pairWord q a b) where
+  paired-by : {r : Row} → Splits q r a b → ((c d : ℕ) → Splits q r c d → (c ≡ a) × (d ≡ b)) → Paired q r j (j + 1) ws (set ws (1036 + j) x)
   paired-by y only =
-      let here : getD (set ws (1048 + j) x) (1048 + j) 0 ≡ pairWord q a b = getD-set-same ws (1048 + j) x 0 room ∙ is in
+      let here : getD (set ws (1036 + j) x) (1036 + j) 0 ≡ pairWord q a b = getD-set-same ws (1036 + j) x 0 room ∙ is in
       record {
-        below = below-set ws (1048 + j) x (omega arith);
+        below = below-set ws (1036 + j) x (omega arith);
         least = omega arith;
         most = omega arith;
         pair = λ l. (a, b, hq, ha, hb, here, y);
         all = λ c d x. let z = only c d x in (omega arith, here ∙ sym (rw (z .0, z .1)));
       }
 
-pub paired-seq : (ws : List ℕ) (q j a b x : ℕ) → q < 256 → a < 256 → b < 256 → 1048 + j < length ws → x ≡ pairWord q a b → Paired q (Seq a b) j (j + 1) ws (set ws (1048 + j) x)
+pub paired-seq : (ws : List ℕ) (q j a b x : ℕ) → q < 256 → a < 256 → b < 256 → 1036 + j < length ws → x ≡ pairWord q a b → Paired q (Seq a b) j (j + 1) ws (set ws (1036 + j) x)
 paired-seq ws q j a b x hq ha hb room is = paired-by ws q j a b x hq ha hb room is {r = Seq a b} Splits.by-seq (λ c d y. seq-only c d y)
 
-pub paired-star : (ws : List ℕ) (q j a x : ℕ) → q < 256 → a < 256 → 1048 + j < length ws → x ≡ pairWord q a q → Paired q (Star a) j (j + 1) ws (set ws (1048 + j) x)
+pub paired-star : (ws : List ℕ) (q j a x : ℕ) → q < 256 → a < 256 → 1036 + j < length ws → x ≡ pairWord q a q → Paired q (Star a) j (j + 1) ws (set ws (1036 + j) x)
 paired-star ws q j a x hq ha room is = paired-by ws q j a q x hq ha hq room is {r = Star a} Splits.by-star (λ c d y. star-only c d y)
 
 -- a row of the two kinds that split

@@ -9,7 +9,7 @@ use native.Mathlib.Omega.{arith}
 use lib.ListN.{length, set, length-set}
 use lib.Seq.{getD-set-other}
 use borrow.Author.Tests.{le-ltb}
-use Rattle.workspace.specs.Bits.{putBit, bitAt, setBit, fourAt, wiped}
+use Rattle.workspace.specs.Bits.{putBit, bitAt, setBit, fourAt, wiped, copied}
 use Rattle.workspace.proofs.Spans.{lt-or-le}
 use Rattle.workspace.proofs.Bits.{set-bit-same, set-bit-other, set-bit-apart}
 use Rattle.groundwork.specs.Laying.{Below}
@@ -32,14 +32,22 @@ unfolding bitAt
 below-bit f e r l = lt-or-le r 256 (λ h. rw (f .same (4 * e + r / 64) (omega arith))) (λ h. rw (le-ltb r 256 h))
 
 module _ {k : ℕ} (ws : List ℕ) (e : ℕ) (l : k ≤ 4 * e) where
+  below-four : (a b c d : ℕ) → Below k ws (fourAt ws e a b c d)
+  unfolding fourAt
+  below-four a b c d =
+      let l1 = set ws (4 * e) a in
+      let l2 = set l1 (4 * e + 1) b in
+      let l3 = set l2 (4 * e + 2) c in
+      below-then (below-set ws (4 * e) a l)
+      (below-then (below-set l1 (4 * e + 1) b (omega arith)) (below-then (below-set l2 (4 * e + 2) c (omega arith)) (below-set l3 (4 * e + 3) d (omega arith))))
+
   pub below-wiped : Below k ws (wiped ws e)
-  unfolding wiped fourAt
-  below-wiped =
-      let l1 = set ws (4 * e) 0 in
-      let l2 = set l1 (4 * e + 1) 0 in
-      let l3 = set l2 (4 * e + 2) 0 in
-      below-then (below-set ws (4 * e) 0 l)
-      (below-then (below-set l1 (4 * e + 1) 0 (omega arith)) (below-then (below-set l2 (4 * e + 2) 0 (omega arith)) (below-set l3 (4 * e + 3) 0 (omega arith))))
+  unfolding wiped
+  below-wiped = below-four 0 0 0 0
+
+  pub below-copied : (from : List ℕ) (q : ℕ) → Below k ws (copied ws e from q)
+  unfolding copied
+  below-copied from q = below-four _ _ _ _
 
   pub below-put : (on : Bool) (r : ℕ) → Below k ws (putBit on ws e r)
   unfolding putBit setBit

@@ -1,9 +1,9 @@
 -- What a sheet's groundwork holds, in a table of four words an entry: entries 0 to 255 reach, 256 the rows that derive the empty word,
--- 257 the ranges that hold a letter, 258 to 261 the bytes of the text that are letters; then a word a pair, at most 256 of them,
+-- 257 the ranges that hold a letter, 258 the letters; then a word a pair, at most 256 of them,
 -- a word for the lengths of text rows, and a word for the number of pairs.
-use Prim.Native.Nat.{ℕ, suc, _+_, _*_, _-_, _/_, _%_, _<_, _≤_}
+use Prim.Native.Nat.{ℕ, suc, _+_, _*_, _-_, _<_, _≤_}
 use mathlib.Core.Path.{_≡_}
-use mathlib.Core.Bool.{Bool, false}
+use mathlib.Core.Bool.{Bool, true, false}
 use mathlib.Core.List.{List}
 use lib.ListN.{length, getD}
 use Rattle.paper.specs.Tests.{anyBelow}
@@ -14,16 +14,16 @@ use Rattle.workspace.specs.Bits.{bit, bitAt}
 
 -- the words of the groundwork, and where its pairs, its text lengths and its count of pairs stand
 abbrev pub size : ℕ
-size = 1306
+size = 1294
 
 abbrev pub pairsAt : ℕ
-pairsAt = 1048
+pairsAt = 1036
 
 abbrev pub lengthsAt : ℕ
-lengthsAt = 1304
+lengthsAt = 1292
 
 abbrev pub countAt : ℕ
-countAt = 1305
+countAt = 1293
 
 -- some byte of a range row is a letter
 unfoldable pub someLetter : Sheet → Row → Bool
@@ -48,7 +48,8 @@ pub record Ground (s : Sheet) (lay : List ℕ) : Type 0 where
   pub reached : (q r : ℕ) → q < length (s .grammar .rows) → r < 256 → bitAt lay q r ≡ reaches (s .grammar) r q
   pub empties : (r : ℕ) → r < 256 → bitAt lay 256 r ≡ nullable (s .grammar) r
   pub ranges : (q : ℕ) → q < 256 → bitAt lay 257 q ≡ someLetter s (row (s .grammar) q)
-  pub texts : (k : ℕ) → k < length (s .grammar .text) → bitAt lay (258 + k / 256) (k % 256) ≡ letter s (getD (s .grammar .text) k 0)
+  pub letters : (b : ℕ) → bitAt lay 258 b ≡ letter s b
+  pub some : anyBelow 256 (letter s) ≡ true
   pub few : getD lay countAt 0 ≤ length (s .grammar .rows)
   pub pairs : (j : ℕ) → j < getD lay countAt 0
       → (q : ℕ) × (a : ℕ) × (b : ℕ) × (q < 256) × (a < 256) × (b < 256) × (getD lay (pairsAt + j) 0 ≡ pairWord q a b) × Splits q (row (s .grammar) q) a b

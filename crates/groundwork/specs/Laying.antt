@@ -1,5 +1,5 @@
 -- What each step leaves while the groundwork is laid. The steps write at rising words, so one frame serves: a step keeps the words below its own.
-use Prim.Native.Nat.{ℕ, _+_, _/_, _%_, _<_, _≤_}
+use Prim.Native.Nat.{ℕ, _+_, _<_, _≤_}
 use mathlib.Core.Path.{_≡_}
 use mathlib.Core.Bool.{Bool, false}
 use mathlib.Core.List.{List}
@@ -29,18 +29,9 @@ pub record Ranges (s : Sheet) (g : Grammar) (n : ℕ) (ws : List ℕ) : Type 0 w
   pub told : (q : ℕ) → q < n → bitAt ws 257 q ≡ someLetter s (row g q)
   pub later : (q : ℕ) → n ≤ q → bitAt ws 257 q ≡ false
 
--- the bit of byte k of the text
-abbrev pub textBit : List ℕ → ℕ → Bool
-textBit ws k = bitAt ws (258 + k / 256) (k % 256)
-
--- no byte of the text is told to be a letter
-abbrev pub NoTexts : List ℕ → Type 0
-NoTexts ws = (k : ℕ) → k < 1024 → textBit ws k ≡ false
-
--- entries 258 to 261, of the first n bytes of the text
-pub record Texts (s : Sheet) (text : List ℕ) (n : ℕ) (ws : List ℕ) : Type 0 where
-  pub told : (k : ℕ) → k < n → textBit ws k ≡ letter s (getD text k 0)
-  pub later : (k : ℕ) → n ≤ k → k < 1024 → textBit ws k ≡ false
+-- a set of four words is that of the letters
+abbrev pub LettersIn : Sheet → List ℕ → Type 0
+LettersIn s letters = (b : ℕ) → bitAt letters 0 b ≡ letter s b
 
 -- the word x is the pair of row q, given as a row
 abbrev pub PairOf : (q : ℕ) → Row → ℕ → Type 0

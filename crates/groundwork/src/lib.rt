@@ -3,19 +3,20 @@ ghost use mathlib.Core.Path.{_≡_};
 ghost use Prim.Native.Nat.{_+_, _*_, _≤_, _<_};
 ghost use lib.ListN.{length};
 ghost use Rattle.paper.specs.Rows.{Range};
-ghost use Rattle.paper.specs.Sheet.{textOf, grammarOf, sheetOf};
+ghost use Rattle.paper.specs.Sheet.{grammarOf, sheetOf};
 ghost use Rattle.paper.proofs.Sound.{SoundRow};
+ghost use Rattle.workspace.specs.Bits.{bitAt};
 ghost use Rattle.sheet_contents.specs.Read.{asRow};
 ghost use Rattle.sheet.specs.Good.{Good};
 ghost use Rattle.rows.specs.Sets.{RowsAt};
 ghost use Rattle.groundwork.specs.Ground.{Ground, someLetter, pairWord};
-ghost use Rattle.groundwork.specs.Laying.{Below, Closures, Ranges, NoTexts, Texts, Paired, Pairs, LengthTold, Lengths};
+ghost use Rattle.groundwork.specs.Laying.{Below, Closures, Ranges, LettersIn, Paired, Pairs, LengthTold, Lengths};
 use sheet_contents::Row;
 use sheet_trailer::Table;
 
 // The rows that reach each row, and the rows that derive the empty word.
 fn closures(s: &[u8], t: Table, out: &mut [u64])
-    requires { ⌜ RowsAt (now s) t × (length (now out) ≡ 1306) ⌝ }
+    requires { ⌜ RowsAt (now s) t × (length (now out) ≡ 1294) ⌝ }
     ensures { λ _. ⌜ Closures (grammarOf (now (s .entry))) (now (out .exit)) ⌝ }
 {
     let mut empty = [0u64; 4];
@@ -57,7 +58,7 @@ fn holds_letter(s: &[u8], r: Row) -> bool
 
 // The ranges that hold a letter.
 fn ranges(s: &[u8], t: Table, out: &mut [u64])
-    requires { ⌜ RowsAt (now s) t × (length (now out) ≡ 1306) ⌝ }
+    requires { ⌜ RowsAt (now s) t × (length (now out) ≡ 1294) ⌝ }
     ensures { λ _. ⌜ Ranges (sheetOf (now (s .entry))) (grammarOf (now (s .entry))) (t .count) (now (out .exit)) × Below 1028 (now (out .entry)) (now (out .exit)) ⌝ }
 {
     workspace::wipe(out, 257);
@@ -66,31 +67,6 @@ fn ranges(s: &[u8], t: Table, out: &mut [u64])
         let on = holds_letter(s, sheet::row_at(s, t, q));
         workspace::put(out, 257, q, on);
         q += 1;
-    }
-}
-
-// No byte of the text is told yet.
-fn wipe_texts(out: &mut [u64])
-    requires { ⌜ length (now out) ≡ 1306 ⌝ }
-    ensures { λ _. ⌜ NoTexts (now (out .exit)) × Below 1032 (now (out .entry)) (now (out .exit)) ⌝ }
-{
-    workspace::wipe(out, 258);
-    workspace::wipe(out, 259);
-    workspace::wipe(out, 260);
-    workspace::wipe(out, 261);
-}
-
-// The bytes of the text that are letters.
-fn texts(s: &[u8], text: &[u8], out: &mut [u64])
-    requires { ⌜ Good (now s) × (now text ≡ textOf (now s)) × (length (now out) ≡ 1306) ⌝ }
-    ensures { λ _. ⌜ Texts (sheetOf (now (s .entry))) (now (text .entry)) (length (now (text .entry))) (now (out .exit)) × Below 1032 (now (out .entry)) (now (out .exit)) ⌝ }
-{
-    wipe_texts(out);
-    let mut k = 0;
-    while k < text.len() {
-        let on = sheet::is_letter(s, text[k]);
-        workspace::put(out, 258 + k / 256, k % 256, on);
-        k += 1;
     }
 }
 
@@ -104,16 +80,16 @@ fn pair_word(q: usize, a: usize, b: usize) -> u64
 
 // Row q's pair, if it splits, as word j of the pairs. The number of the next word.
 fn pair(out: &mut [u64], j: usize, q: usize, r: Row) -> usize
-    requires { ⌜ (j ≤ q) × (q < 256) × SoundRow 1024 256 (asRow r) × (length (now out) ≡ 1306) ⌝ }
+    requires { ⌜ (j ≤ q) × (q < 256) × SoundRow 1024 256 (asRow r) × (length (now out) ≡ 1294) ⌝ }
     ensures { λ m. ⌜ Paired q (asRow r) j m (now (out .entry)) (now (out .exit)) ⌝ }
 {
     match r {
         Row::Seq(a, b) => {
-            out[1048 + j] = pair_word(q, a, b);
+            out[1036 + j] = pair_word(q, a, b);
             j + 1
         }
         Row::Star(a) => {
-            out[1048 + j] = pair_word(q, a, q);
+            out[1036 + j] = pair_word(q, a, q);
             j + 1
         }
         Row::Empty => j,
@@ -125,8 +101,8 @@ fn pair(out: &mut [u64], j: usize, q: usize, r: Row) -> usize
 
 // The pairs, one for each row that splits. Their number.
 fn pairs(s: &[u8], t: Table, out: &mut [u64]) -> usize
-    requires { ⌜ RowsAt (now s) t × (length (now out) ≡ 1306) ⌝ }
-    ensures { λ j. ⌜ Pairs (grammarOf (now (s .entry))) (t .count) j (now (out .exit)) × Below 1048 (now (out .entry)) (now (out .exit)) ⌝ }
+    requires { ⌜ RowsAt (now s) t × (length (now out) ≡ 1294) ⌝ }
+    ensures { λ j. ⌜ Pairs (grammarOf (now (s .entry))) (t .count) j (now (out .exit)) × Below 1036 (now (out .entry)) (now (out .exit)) ⌝ }
 {
     let mut j = 0;
     let mut q = 0;
@@ -170,16 +146,24 @@ fn lengths(s: &[u8], t: Table) -> u64
     mask
 }
 
-// The groundwork of an accepted sheet.
-pub fn lay(s: &[u8], out: &mut [u64])
-    requires { ⌜ Good (now s) × (length (now out) ≡ 1306) ⌝ }
+// Whether the byte is a letter.
+pub fn is_letter(lay: &[u64], b: usize) -> bool
+    requires { ⌜ (b < 256) × (1036 ≤ length (now lay)) ⌝ }
+    ensures { λ r. ⌜ r ≡ bitAt (now (lay .entry)) 258 b ⌝ }
+{
+    (lay[1032 + b / 64] >> (b % 64)) & 1 == 1
+}
+
+// The groundwork of an accepted sheet, whose letters are given.
+pub fn lay(s: &[u8], letters: &[u64], out: &mut [u64])
+    requires { ⌜ Good (now s) × LettersIn (sheetOf (now s)) (now letters) × (4 ≤ length (now letters)) × (length (now out) ≡ 1294) ⌝ }
     ensures { λ _. ⌜ Ground (sheetOf (now (s .entry))) (now (out .exit)) ⌝ }
 {
     let t = sheet_trailer::table_of(s, 2);
     closures(s, t, out);
     ranges(s, t, out);
-    texts(s, sheet::text_of(s), out);
+    workspace::copy(out, 258, letters, 0);
     let j = pairs(s, t, out);
-    out[1304] = lengths(s, t);
-    out[1305] = j as u64;
+    out[1292] = lengths(s, t);
+    out[1293] = j as u64;
 }

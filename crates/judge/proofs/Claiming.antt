@@ -37,7 +37,7 @@ module _ (S : Sheet) (places : List ℕ) (a b : ℕ) where
 
 -- the code's comparison of a stretch is the pattern's
 pub held-here : (s lay places : List ℕ) → Ground (sheetOf s) lay → (i a b : ℕ) → a + b ≤ length (textOf s) → i + b ≤ length places
-    → canHoldAll lay places i a (take b (drop a (textOf s))) ≡ stands (sheetOf s) places a b i
+    → canHoldAll lay places i (take b (drop a (textOf s))) ≡ stands (sheetOf s) places a b i
 held-here s lay places g i a b h k =
-    subst (λ (t : List ℕ). canHoldAll lay places i a (take b (drop a t)) ≡ stands (sheetOf s) places a b i) (text-is s)
+    subst (λ (t : List ℕ). canHoldAll lay places i (take b (drop a t)) ≡ stands (sheetOf s) places a b i) (text-is s)
     (text-held (sheetOf s) lay places g i a b (omega (arith, ap length (text-is s))) k)

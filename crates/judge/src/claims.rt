@@ -29,7 +29,7 @@ fn holds_at(s: &[u8], a: usize, b: usize, places: &[u16], i: usize, lay: &[u64])
 {
     let text = sheet::text_of(s);
     let e = a + b;
-    chart::singles::can_hold_all(&text[a..e], a, places, i, lay)
+    chart::singles::can_hold_all(&text[a..e], places, i, lay)
 }
 
 // The places can hold them somewhere.
@@ -101,7 +101,7 @@ pub fn can_hold(
     match claim {
         Claim::Derived(row) => derive_from(s, row, &p.of, p.len, have, lay, work),
         Claim::Contains(a, b) => contain_from(s, a, b, &p.of, p.len, lay),
-        Claim::Equals(_, _) => terms::meets::equal(s, p, q),
-        Claim::ContainsTerm(_, _) => terms::meets::contains(s, p, q),
+        Claim::Equals(_, _) => terms::meets::equal(p, q, lay),
+        Claim::ContainsTerm(_, _) => terms::meets::contains(p, q, lay),
     }
 }

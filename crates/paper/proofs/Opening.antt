@@ -108,8 +108,8 @@ module _ (s : Sheet) where
       let l = length U in
       let n : length (take l (drop i T)) ≡ l = length-take-le l (drop i T) (rw length-drop (omega arith)) in
       let m = can-equal (take l (drop i T)) U n (λ j k.
-          let k′ : j < l = rw n at k in
-          rw (getD-take l (drop i T) j Unknown k′, getD-drop i T j Unknown) (all-elim l (λ j. meet s (getD T (i + j) Unknown) (getD U j Unknown)) e j k′)) in
+      let k′ : j < l = rw n at k in
+      rw (getD-take l (drop i T) j Unknown k′, getD-drop i T j Unknown) (all-elim l (λ j. meet s (getD T (i + j) Unknown) (getD U j Unknown)) e j k′)) in
       let z = fills-around T i l (m .0) (m .1) (m .2) (same-sym (m .0) (m .1) (m .4)) f in
       (z .0, m .1, z .1, m .3, z .2)
 
@@ -124,12 +124,14 @@ module _ (s : Sheet) where
       let b = fills-length s g in
       let c = same-length u m (h .same) in
       let d = ap length (h .joined) in
-      let l : length x + length U ≤ length T = omega (arith, length-append x (m ++ y), length-append m y) in
-      (l, all-intro (length U) (λ j. meet s (getD T (length x + j) Unknown) (getD U j Unknown)) (λ j k.
-          let i : getD t (length x + j) 0 ≡ getD m j 0 =
-              ap (λ (w : List ℕ). getD w (length x + j) 0) (h .joined) ∙ getD-append-add x (m ++ y) j 0 ∙ List·getD-append m y 0 j (omega arith) in
-          fills-meet (fills-below s f Unknown (length x + j) (omega arith)) (fills-below s g Unknown j k)
-          (rw i (byte-sym (getD u j 0) (getD m j 0) (at-same u m (h .same) j (omega arith))))))
+      let l : length x + length U ≤ length T = omega (arith, length-append x (m ++ y), length-append m y) in (
+        l,
+        all-intro (length U) (λ j. meet s (getD T (length x + j) Unknown) (getD U j Unknown)) (λ j k.
+            let i : getD t (length x + j) 0 ≡ getD m j 0 =
+            ap (λ (w : List ℕ). getD w (length x + j) 0) (h .joined) ∙ getD-append-add x (m ++ y) j 0 ∙ List·getD-append m y 0 j (omega arith) in
+            fills-meet (fills-below s f Unknown (length x + j) (omega arith)) (fills-below s g Unknown j k)
+            (rw i (byte-sym (getD u j 0) (getD m j 0) (at-same u m (h .same) j (omega arith))))),
+      )
 
   -- where each term can be filled somehow, a claim that passes holds of some fillings
   can-hold : (c : Claim) (T U : List Place) → Fillable s T → Fillable s U → canHold s c T U ≡ true → CanHold s c T U

@@ -51,9 +51,9 @@ fn searched(s: &[u8], budget: u64, work: &mut [u64]) -> search::Sought
     requires { ⌜ Good (now s) × (7564 ≤ length (now work)) ⌝ }
     ensures { λ r. ⌜ Tells (longest (now (s .entry))) (under budget (walkOf (sheetOf (now (s .entry))))) r × Within (now (work .entry)) (now (work .exit)) ⌝ }
 {
-    let mut lay = [0u64; 1306];
-    groundwork::lay(s, &mut lay);
     let l = search::letters::letters_of(s);
+    let mut lay = [0u64; 1294];
+    groundwork::lay(s, &l.of, &mut lay);
     let slots = alike::slots_of(s);
     let lo = sheet_trailer::shortest(s);
     let hi = sheet_trailer::longest(s);

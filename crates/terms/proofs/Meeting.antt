@@ -10,14 +10,13 @@ use borrow.Author.Tests.{lt-ltb, le-ltb, eq-eqb, ne-eqb}
 use lib.Dec.{eqb}
 use lib.ListN.{length, getD, take}
 use lib.Seq.{length-take-le, getD-take}
-use Rattle.paper.specs.Bytes.{u8At}
 use Rattle.paper.specs.Tests.{anyOf}
 use Rattle.paper.specs.Terms.{Unknown}
-use Rattle.paper.specs.Sheet.{Sheet, sheetOf, letter, Equals, ContainsTerm}
+use Rattle.paper.specs.Sheet.{Sheet, Equals, ContainsTerm}
 use Rattle.paper.specs.Opens.{allows, meet, meetFrom, isUnknown, canHold}
 use Rattle.paper.proofs.Tests.{any-of-below, any-intro, any-nowhere, all-same}
-use Rattle.sheet.specs.Good.{Good}
-use Rattle.sheet.proofs.Contents.{some-letter}
+use Rattle.workspace.specs.Bits.{bitAt}
+use Rattle.groundwork.specs.Ground.{Ground}
 use Rattle.workspace.specs.Places.{placeOf}
 use Rattle.workspace.proofs.Places.{place-known, place-unknown, places-at}
 use Rattle.terms.specs.declared.Places.{Places}
@@ -62,24 +61,22 @@ module _ (p : Places) (z : Sized p) where
 
 -- ---- two places
 
-module _ (s : List ℕ) (g : Good s) (x y : ℕ) where
-  pub meet-known : x < 256 → y < 256 → eqb x y ≡ meet (sheetOf s) (placeOf x) (placeOf y)
+module _ (s : Sheet) (lay : List ℕ) (ground : Ground s lay) (x y : ℕ) where
+  pub meet-known : x < 256 → y < 256 → eqb x y ≡ meet s (placeOf x) (placeOf y)
   unfolding meet allows
   meet-known a b = rw (place-known x a, place-known y b)
 
-  pub meet-left : x < 256 → 256 ≤ y → letter (sheetOf s) x ≡ meet (sheetOf s) (placeOf x) (placeOf y)
+  pub meet-left : x < 256 → 256 ≤ y → bitAt lay 258 x ≡ meet s (placeOf x) (placeOf y)
   unfolding meet allows
-  meet-left a b = rw (place-known x a, place-unknown y b)
+  meet-left a b = rw (place-known x a, place-unknown y b) (ground .letters x)
 
-  pub meet-right : 256 ≤ x → y < 256 → letter (sheetOf s) y ≡ meet (sheetOf s) (placeOf x) (placeOf y)
+  pub meet-right : 256 ≤ x → y < 256 → bitAt lay 258 y ≡ meet s (placeOf x) (placeOf y)
   unfolding meet
-  meet-right a b = rw (place-unknown x a, place-known y b)
+  meet-right a b = rw (place-unknown x a, place-known y b) (ground .letters y)
 
-  pub meet-none : ((i : ℕ) → u8At s i < 256) → 256 ≤ x → 256 ≤ y → true ≡ meet (sheetOf s) (placeOf x) (placeOf y)
+  pub meet-none : 256 ≤ x → 256 ≤ y → true ≡ meet s (placeOf x) (placeOf y)
   unfolding meet
-  meet-none h a b =
-      let w = some-letter s h g in
-      rw (place-unknown x a, place-unknown y b) (sym (any-intro 256 (letter (sheetOf s)) (w .0) (w .1) (w .2)))
+  meet-none a b = rw (place-unknown x a, place-unknown y b) (sym (ground .some))
 
 -- ---- two terms
 

@@ -3,10 +3,10 @@ ghost use mathlib.Core.Path.{_≡_};
 ghost use Prim.Native.Nat.{ℕ, _+_, _≤_};
 ghost use lib.ListN.{length};
 ghost use Rattle.paper.specs.Tests.{anyOf};
-ghost use Rattle.paper.specs.Sheet.{sheetOf, Equals, ContainsTerm};
+ghost use Rattle.paper.specs.Sheet.{Sheet, Equals, ContainsTerm};
 ghost use Rattle.paper.specs.Opens.{isUnknown, canHold};
 ghost use Rattle.paper.specs.Opens as paper;
-ghost use Rattle.sheet.specs.Good.{Good};
+ghost use Rattle.groundwork.specs.Ground.{Ground};
 ghost use Rattle.workspace.specs.Places.{placeOf};
 ghost use Rattle.terms.specs.Shown.{shown, Sized, meetFirst};
 
@@ -27,30 +27,30 @@ pub fn some_unknown(p: crate::Places) -> bool
 }
 
 // Two places can hold the same byte.
-fn meet(s: &[u8], x: u16, y: u16) -> bool
-    requires { ⌜ Good (now s) ⌝ }
-    ensures { λ r. ⌜ r ≡ paper.meet (sheetOf (now (s .entry))) (placeOf x) (placeOf y) ⌝ }
+fn meet(lay: &[u64], x: u16, y: u16) -> bool
+    requires { ⌜ 1036 ≤ length (now lay) ⌝ }
+    ensures { λ r. ⌜ ((s : Sheet) → Ground s (now (lay .entry)) → r ≡ paper.meet s (placeOf x) (placeOf y)) ⌝ }
 {
     if x < 256 {
         if y < 256 {
             return x == y;
         }
-        return sheet::is_letter(s, x as u8);
+        return groundwork::is_letter(lay, x as usize);
     }
     if y < 256 {
-        return sheet::is_letter(s, y as u8);
+        return groundwork::is_letter(lay, y as usize);
     }
     true
 }
 
 // The first `len` places of q can hold the bytes that those of p hold from i on.
-fn meet_from(s: &[u8], p: &[u16], i: usize, q: &[u16], len: usize) -> bool
-    requires { ⌜ Good (now s) × (i + len ≤ length (now p)) × (len ≤ length (now q)) ⌝ }
-    ensures { λ r. ⌜ r ≡ meetFirst (sheetOf (now (s .entry))) (now (p .entry)) i (now (q .entry)) len ⌝ }
+fn meet_from(p: &[u16], i: usize, q: &[u16], len: usize, lay: &[u64]) -> bool
+    requires { ⌜ (i + len ≤ length (now p)) × (len ≤ length (now q)) × (1036 ≤ length (now lay)) ⌝ }
+    ensures { λ r. ⌜ ((s : Sheet) → Ground s (now (lay .entry)) → r ≡ meetFirst s (now (p .entry)) i (now (q .entry)) len) ⌝ }
 {
     let mut j = 0;
     while j < len {
-        if meet(s, p[i + j], q[j]) {
+        if meet(lay, p[i + j], q[j]) {
             j += 1;
         } else {
             return false;
@@ -60,26 +60,26 @@ fn meet_from(s: &[u8], p: &[u16], i: usize, q: &[u16], len: usize) -> bool
 }
 
 // Two terms can be the same word.
-pub fn equal(s: &[u8], p: crate::Places, q: crate::Places) -> bool
-    requires { ⌜ Good (now s) × Sized p × Sized q ⌝ }
-    ensures { λ r. ⌜ ((a b : ℕ) → r ≡ canHold (sheetOf (now (s .entry))) (Equals a b) (shown p) (shown q)) ⌝ }
+pub fn equal(p: crate::Places, q: crate::Places, lay: &[u64]) -> bool
+    requires { ⌜ Sized p × Sized q × (1036 ≤ length (now lay)) ⌝ }
+    ensures { λ r. ⌜ ((s : Sheet) → Ground s (now (lay .entry)) → (a b : ℕ) → r ≡ canHold s (Equals a b) (shown p) (shown q)) ⌝ }
 {
     if q.len != p.len {
         return false;
     }
-    meet_from(s, &p.of, 0, &q.of, q.len)
+    meet_from(&p.of, 0, &q.of, q.len, lay)
 }
 
 // The term p can contain the term q.
-pub fn contains(s: &[u8], p: crate::Places, q: crate::Places) -> bool
-    requires { ⌜ Good (now s) × Sized p × Sized q ⌝ }
-    ensures { λ r. ⌜ ((a b : ℕ) → r ≡ canHold (sheetOf (now (s .entry))) (ContainsTerm a b) (shown p) (shown q)) ⌝ }
+pub fn contains(p: crate::Places, q: crate::Places, lay: &[u64]) -> bool
+    requires { ⌜ Sized p × Sized q × (1036 ≤ length (now lay)) ⌝ }
+    ensures { λ r. ⌜ ((s : Sheet) → Ground s (now (lay .entry)) → (a b : ℕ) → r ≡ canHold s (ContainsTerm a b) (shown p) (shown q)) ⌝ }
 {
     let n = p.len;
     let m = q.len;
     let mut i = 0;
     while i + m <= n {
-        if meet_from(s, &p.of, i, &q.of, m) {
+        if meet_from(&p.of, i, &q.of, m, lay) {
             return true;
         }
         i += 1;

@@ -11,7 +11,7 @@ use Rattle.groundwork.proofs.pairs.Tie as tie
 
 -- the first j words hold the pairs of the rows below q
 abbrev Inv-loop : tie.InvT-loop
-Inv-loop s t out₀ j₀ q₀ out j q = (q ≤ t .count) × Pairs (grammarOf s) q j out × Below 1048 out₀ out
+Inv-loop s t out₀ j₀ q₀ out j q = (q ≤ t .count) × Pairs (grammarOf s) q j out × Below 1036 out₀ out
 
 abbrev μ-loop : tie.MeasureT-loop
 μ-loop s t out₀ j₀ q₀ out j q = t .count - q

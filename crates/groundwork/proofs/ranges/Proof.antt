@@ -20,7 +20,7 @@ abbrev μ-loop : tie.MeasureT-loop
 μ-loop s t out₀ q₀ out q = t .count - q
 
 -- the workspace keeps its length
-long : (c : tie.After-holds-letter Inv-loop μ-loop) → length (c .before .before .before .before .loop .out) ≡ 1306
+long : (c : tie.After-holds-letter Inv-loop μ-loop) → length (c .before .before .before .before .loop .out) ≡ 1294
 long c = c .before .before .before .before .loop .inv .2 .long ∙ c .before .before .before .before .before .before .before .wipe .kept .0 ∙ c .before .before .before .before .before .before .before .before .before .before .before .pre .1
 
 loop-holds : tie.Need-loop-holds Inv-loop μ-loop

@@ -1,5 +1,4 @@
 use mathlib.Core.Path.{sym, _∙_}
-use native.Mathlib.Omega.{arith}
 use Rattle.chart.specs.Cells.{noRange}
 use borrow.Author.Needs.{needs}
 use Rattle.chart.proofs.singles.no_range.Statement.{statement}
@@ -14,4 +13,4 @@ unfolding noRange
 returns-2 c = rw (sym (c .before .none .ensures) ∙ c .if1 .left)
 
 pub no-range-spec : {M : Type 1} → statement M
-no-range-spec = tie.close (tie.spec (λ c κs. search needs) (λ c. omega arith) (λ c κs. search needs) returns returns-2)
+no-range-spec = tie.close (tie.spec (λ c κs. search needs) (λ c κs. search needs) returns returns-2)

@@ -49,7 +49,7 @@ ranges-spec =
     (tie.spec
     Inv-loop
     μ-loop
-    (λ c κs. (c .before .before .before .pre .0, omega (arith, c .before .before .before .pre .2 .long), c .before .before .before .pre .3))
+    (λ c κs. (omega (arith, c .before .before .before .pre .2 .long), c .before .before .before .pre .3))
     returns
     (λ c. (omega arith, adds-none _ _ _ (among-none _ _)))
     (λ c κs. (c .before .before .before .before .before .before .before .before .pre .0, c .before .before .before .before .before .before .before .before .pre .1, omega arith))

@@ -20,7 +20,7 @@ can-hold-all-requires : tie.Need-can-hold-all-requires
 can-hold-all-requires c κs =
     let p = c .before .before .before .before .before .before .before .before .before .before .pre in
     let size = part-size (c .before .before .before .before .before .before .before .before .before .before .args .text .now) (c .before .before .before .a .given .0 .0) (c .before .before .before .a .given .0 .1 .0) (inside (c .before .before)) in
-    (omega (arith, size, inside (c .before .before), text-few _ (p .0) _ (p .3)), omega (arith, size), omega (arith, p .5 .long))
+    (omega (arith, size), omega (arith, p .5 .long))
 
 returns-2 : tie.Need-returns-2
 unfolding fitting

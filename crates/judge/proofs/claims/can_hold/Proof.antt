@@ -28,10 +28,10 @@ unfolding shown
 returns-2 c = rw (c .before .before .before .before .before .claim2 .given .1) (c .contain-from .ensures _, record { within = within-none _; leaves = refl })
 
 returns-3 : tie.Need-returns-3
-returns-3 c = rw (c .before .enum-told .given .1) (c .equal .ensures _ _, record { within = within-none _; leaves = refl })
+returns-3 c = rw (c .before .enum-told .given .1) (c .equal .ensures _ (c .before .before .before .before .before .before .pre .0 .ground) _ _, record { within = within-none _; leaves = refl })
 
 returns-4 : tie.Need-returns-4
-returns-4 c = rw (c .before .enum-told2 .given .1) (c .contains .ensures _ _, record { within = within-none _; leaves = refl })
+returns-4 c = rw (c .before .enum-told2 .given .1) (c .contains .ensures _ (c .before .before .before .before .before .before .pre .0 .ground) _ _, record { within = within-none _; leaves = refl })
 
 pub can-hold-spec : {M : Type 1} → statement M
 can-hold-spec =
@@ -42,9 +42,9 @@ can-hold-spec =
     (λ c. search needs)
     contain-from-requires
     (λ c. search needs)
-    (λ c κs. (c .before .before .before .before .before .pre .0 .good, c .before .before .before .before .before .pre .2, c .before .before .before .before .before .pre .3))
+    (λ c κs. (c .before .before .before .before .before .pre .2, c .before .before .before .before .before .pre .3, omega (arith, c .before .before .before .before .before .pre .0 .ground .long)))
     (λ c. search needs)
-    (λ c κs. (c .before .before .before .before .before .pre .0 .good, c .before .before .before .before .before .pre .2, c .before .before .before .before .before .pre .3))
+    (λ c κs. (c .before .before .before .before .before .pre .2, c .before .before .before .before .before .pre .3, omega (arith, c .before .before .before .before .before .pre .0 .ground .long)))
     (λ c. search needs)
     returns
     returns-2
