@@ -49,7 +49,7 @@ module _ (S : Sheet) (a : Assertion) (T U : List Place) where
 
 -- no cut of a run of parts reaches past n
 abbrev runInside : Sheet → ℕ → Run → Bool
-runInside S n r = allOf (cutInside n) (partsOf S r)
+runInside S n r = allOf (cutInside (S .rules) n) (partsOf S r)
 
 -- the second term's run, as the code has it
 module _ (S : Sheet) (a : Assertion) (second : Run) (is : second ≡ secondRun (a .claim)) (n : ℕ) (W : List Place) where
@@ -66,17 +66,17 @@ module _ (S : Sheet) (a : Assertion) (second : Run) (is : second ≡ secondRun (
   unfolding possible inside
   inside-both T U x e f t u h = rw (← e, ← is, ← f, ← t, ← u) h
 
--- an accepted assertion's terms can be laid out where no cut reaches past the end
+-- an accepted assertion's terms can be laid out
 module _ (s : List ℕ) (a : Assertion) (t : Told s a) (second : Run) (is : second ≡ secondRun (a .claim)) where
   pub second-run : second .first + second .count ≤ countOf s 3
   second-run = rw is (t .sound .second)
 
   module _ (n : ℕ) (h : n ≤ longest s) where
-    pub readable-first : runInside (sheetOf s) n (a .term) ≡ true → Readable s n (a .term)
-    readable-first e = record { short = h; run = t .sound .run; fits = t .term; within = e }
+    pub readable-first : Readable s n (a .term)
+    readable-first = record { short = h; run = t .sound .run; fits = t .term }
 
-    pub readable-second : runInside (sheetOf s) n second ≡ true → Readable s n second
-    readable-second e = record { short = h; run = second-run; fits = rw is (t .second); within = e }
+    pub readable-second : Readable s n second
+    readable-second = record { short = h; run = second-run; fits = rw is (t .second) }
 
 -- ---- all assertions
 

@@ -90,7 +90,7 @@ module _ (s : Sheet) where
 
     inside-alike : (d : Bool) (t : Run) (n : ℕ) → inside s n (asked (Contains a b) d t) ≡ inside s n (asked containsTerm d t)
     unfolding inside partsOf cutInside
-    inside-alike d t n = rw (one, all-of-cons (cutInside n) (Const a b) [], all-of-nil (cutInside n))
+    inside-alike d t n = rw (one, all-of-cons (cutInside (s .rules) n) (Const a b) [], all-of-nil (cutInside (s .rules) n))
 
     -- met alike, by every word
     pub met-alike : (d : Bool) (t : Run) (w : List ℕ) → Met s w (asked (Contains a b) d t) ↔ Met s w (asked containsTerm d t)

@@ -11,11 +11,11 @@ use lib.Dec.{leb, ltb, eqb}
 use lib.ListN.{length}
 use borrow.Author.Tests.{eqb-false}
 use Rattle.paper.specs.Tests.{firstFrom, firstBad}
-use Rattle.paper.specs.Trailer.{limit, longest, sheetMost, markOk, totalOk, countOk, lengthsOk, offsetsOk, countOf, recordAt}
+use Rattle.paper.specs.Trailer.{limit, longest, sheetMost, markOk, totalOk, countOk, lengthsOk, offsetsOk, rulesOk, countOf, recordAt}
 use Rattle.paper.specs.Sheet.{grammarOf}
 use Rattle.paper.specs.Records.{recordOk, tableOk, badRecord, badTable, assertFits, badTerm}
-use Rattle.paper.specs.Refusals.{Fault, plain, noFault, unless, orElse, countFault, recordFault, termFault, contentRefusal, tableRefusal, refusal, latest}
-use Rattle.paper.specs.Names.{FirstFails, Names}
+use Rattle.paper.specs.Refusals.{Fault, plain, noFault, unless, orElse, countFault, ruleFault, recordFault, termFault, contentRefusal, tableRefusal, refusal, latest}
+use Rattle.paper.specs.Names.{FirstFails, NewByte, FirstRecord, Names}
 use Rattle.paper.specs.Cuts.{cutList}
 use Rattle.paper.specs.Answers.{words, solverRefusal, makerRefusal}
 use Rattle.paper.proofs.Tests.{true-or-false}
@@ -79,16 +79,28 @@ module _ (s : List ℕ) where
     others = λ a b c. absurd (a refl);
   }
 
-  record-names : eqb (badTable s) 5 ≡ false → Names s (recordFault s)
+  -- a fault that 16 tells
+  told-16 : (f : Fault) → f .number ≡ 16 → NewByte s f ⊎ FirstRecord s f → Names s f
+  told-16 f e n = record {
+    counts = λ z. absurd (omega arith);
+    records = λ z. n;
+    terms = λ z. absurd (omega arith);
+    others = λ a b c. absurd (b e);
+  }
+
+  rule-names : rulesOk s ≡ false → Names s ruleFault
+  rule-names h = told-16 ruleFault refl (inl (record { bad = h; table = refl; «record» = refl }))
+
+  record-names : rulesOk s ≡ true → eqb (badTable s) 5 ≡ false → Names s (recordFault s)
   unfolding tableOk
-  record-names h =
+  record-names good h =
       let t = first-fails (tableOk s) 5 h in
-      record {
-        counts = λ e. absurd (omega arith);
-        records = λ e. (t, first-fails (λ i. recordOk s (badTable s) (recordAt s (badTable s) i)) (countOf s (badTable s)) (t .fails));
-        terms = λ e. absurd (omega arith);
-        others = λ a b c. absurd (b refl);
-      }
+      told-16 (recordFault s) refl
+      (inr (record {
+        good = good;
+        table = t;
+        «record» = first-fails (λ i. recordOk s (badTable s) (recordAt s (badTable s) i)) (countOf s (badTable s)) (t .fails);
+      }))
 
   term-names : eqb (badTerm s) (countOf s 4) ≡ false → Names s (termFault s)
   term-names h = record {
@@ -98,9 +110,13 @@ module _ (s : List ℕ) where
     others = λ a b c. absurd (c refl);
   }
 
+  -- where the test holds, what follows may count on it
+  unless-then : (f : Fault) (test : Bool) (later : Fault) → (test ≡ false → Names s f) → (test ≡ true → Names s later) → Names s (unless f test later)
+  unless-then f true later a b = b refl
+  unless-then f false later a b = a refl
+
   pub unless-names : (f : Fault) (test : Bool) (later : Fault) → (test ≡ false → Names s f) → Names s later → Names s (unless f test later)
-  unless-names f true later a b = b
-  unless-names f false later a b = a refl
+  unless-names f test later a b = unless-then f test later a (λ q. b)
 
   -- THE FAULT of a sheet names what its number says
   pub refusal-names : (last : ℕ) → Names s (refusal last s)
@@ -113,8 +129,9 @@ module _ (s : List ℕ) where
       (unless-names (countFault s) (eqb (firstBad (countOk s) 5) 5) _ count-names
       (unless-names (plain 141) (lengthsOk s) _ (λ q. named-by 141 refl)
       (unless-names (plain 15) (offsetsOk s) _ (λ q. named-by 15 refl)
-      (unless-names (recordFault s) (eqb (badTable s) 5) _ record-names
-      (unless-names (termFault s) (eqb (badTerm s) (countOf s 4)) noFault term-names (named-by 0 refl)))))))))
+      (unless-then ruleFault (rulesOk s) _ rule-names (λ good.
+      unless-names (recordFault s) (eqb (badTable s) 5) _ (record-names good)
+      (unless-names (termFault s) (eqb (badTerm s) (countOf s 4)) noFault term-names (named-by 0 refl))))))))))
 
   pub or-else-names : (f later : Fault) → Names s f → Names s later → Names s (orElse f later)
   or-else-names f later a b = unless-names f (eqb (f .number) 0) later (λ q. a) b

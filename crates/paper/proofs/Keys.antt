@@ -2,7 +2,7 @@
 use mathlib.Core.Path.{refl}
 use Rattle.paper.specs.Bytes.{u16At, u32At, u16, u32, markAt}
 use Rattle.paper.specs.Tests.{anyBelow, allBelow, anyOf, allOf, Every, firstFrom, tableFrom, gather}
-use Rattle.paper.specs.Trailer.{edition, base, field, startOf, markOk, totalOk, countOk, lengthsOk, offsetOk, offsetsOk}
+use Rattle.paper.specs.Trailer.{edition, base, field, newByte, rulesOf, startOf, markOk, totalOk, countOk, lengthsOk, rulesOk, offsetOk, offsetsOk}
 use Rattle.paper.specs.Records.{letterOk, rowFields, rowOk, partFields, partOk, assertFields, assertOk, recordOk, tableOk, partLen, termLen, assertFits}
 use Rattle.paper.specs.Refusals.{contentRefusal, tableRefusal, refusal}
 use Rattle.paper.specs.Rows.{stretch, rowOf, row}
@@ -23,7 +23,7 @@ use Rattle.paper.specs.Keys.{allOfV, vInRow, rowsB, sheetB, sheetK5, she
 pub keys-right : Every Right keys
 unfolding keys record6 record12 sheetBytes allOfV vInRow rowsB sheetB sheetK5 sheetK7 sheetK8 sheetK9 sheetK10 sheetK11 sheetK12 sheetWithin sheetTerm sheetLong
     u16At u32At u16 u32 markAt anyBelow allBelow anyOf allOf firstFrom tableFrom gather
-    edition base field startOf markOk totalOk countOk lengthsOk offsetOk offsetsOk
+    edition base field newByte rulesOf startOf markOk totalOk countOk lengthsOk rulesOk offsetOk offsetsOk
     letterOk rowFields rowOk partFields partOk assertFields assertOk recordOk tableOk partLen termLen assertFits contentRefusal tableRefusal refusal
     stretch rowOf row partOf placesOf piece term fullLength cutInside claimOf letter partsOf inside spanAt rowAt partAt assertionAt textOf grammarOf tableOf sheetOf termOn
     rounds closure nullRow nullRule nullable reachRow reachRule carried reaches fits someIn split ownRow level decide.upTo accepts

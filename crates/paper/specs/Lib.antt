@@ -3,6 +3,7 @@ pub mod Tests
 pub mod Compare
 pub mod Trailer
 pub mod Rows
+pub mod Rules
 pub mod Terms
 pub mod Sheet
 pub mod Records

@@ -6,7 +6,7 @@ use mathlib.Core.Bool.{Bool, cond}
 use lib.ListN.{length}
 use lib.Dec.{leb, eqb}
 use Rattle.paper.specs.Tests.{firstBad}
-use Rattle.paper.specs.Trailer.{sheetMost, markOk, totalOk, countOk, lengthsOk, offsetsOk, countOf}
+use Rattle.paper.specs.Trailer.{sheetMost, markOk, totalOk, countOk, lengthsOk, offsetsOk, rulesOk, countOf}
 use Rattle.paper.specs.Records.{badRecord, badTable, badTerm}
 
 -- "the answer shall carry a table number (0 letters to 4 assertions) and a record number"
@@ -35,6 +35,10 @@ orElse f later = cond (eqb (f .number) 0) later f
 abbrev pub countFault : List ℕ → Fault
 countFault s = record { number = 14; table = firstBad (countOk s) 5; «record» = 0 }
 
+-- "a bad new byte is 16, .. told as table 5, record 0"
+abbrev pub ruleFault : Fault
+ruleFault = record { number = 16; table = 5; «record» = 0 }
+
 -- 16 names "the first offending record in table order"
 abbrev pub recordFault : List ℕ → Fault
 recordFault s = record { number = 16; table = badTable s; «record» = badRecord s (badTable s) }
@@ -43,11 +47,12 @@ recordFault s = record { number = 16; table = badTable s; «record» = badRecord
 abbrev pub termFault : List ℕ → Fault
 termFault s = record { number = 17; table = 4; «record» = badTerm s }
 
--- 16 and 17, of a sheet whose tables lie right
+-- 16 and 17, of a sheet whose tables lie right; a bad new byte comes "before any table's record"
 unfoldable pub contentRefusal : List ℕ → Fault
 contentRefusal s =
-    unless (recordFault s) (eqb (badTable s) 5)
-    (unless (termFault s) (eqb (badTerm s) (countOf s 4)) noFault)
+    unless ruleFault (rulesOk s)
+    (unless (recordFault s) (eqb (badTable s) 5)
+    (unless (termFault s) (eqb (badTerm s) (countOf s 4)) noFault))
 
 -- 14 to 17, of a sheet with its mark and its total; "141 is the bad length pair, after 14 and before 15"
 unfoldable pub tableRefusal : List ℕ → Fault
@@ -68,7 +73,7 @@ refusal last s =
 
 -- the last edition that the calls read
 abbrev pub latest : ℕ
-latest = 1
+latest = 2
 
 -- "a sheet is accepted when none of 10 to 17 holds"
 abbrev pub Accepted : List ℕ → Type 0

@@ -1,4 +1,4 @@
--- A sheet's contents: letters, rows over the text, parts, assertions and the two lengths; and how they are read from its bytes.
+-- A sheet's contents: its rules, letters, rows over the text, parts, assertions and the two lengths; and how they are read from its bytes.
 use Prim.Native.Nat.{ℕ, _+_, _*_}
 use mathlib.Core.Bool.{Bool, true, false, cond, _&&_}
 use mathlib.Core.List.{List, [], _∷_, _++_}
@@ -7,7 +7,8 @@ use lib.ListN.{take, drop}
 use Rattle.paper.specs.Bytes.{u8At, u16At}
 use Rattle.paper.specs.Tests.{anyOf, allOf, tableFrom}
 use Rattle.paper.specs.Trailer as trailer
-use Rattle.paper.specs.Trailer.{countOf, offsetOf, recordAt}
+use Rattle.paper.specs.Trailer.{countOf, offsetOf, recordAt, rulesOf}
+use Rattle.paper.specs.Rules.{Rules}
 use Rattle.paper.specs.Rows.{Row, rowOf, Grammar}
 use Rattle.paper.specs.Terms.{Part, partOf, cutInside}
 
@@ -48,6 +49,7 @@ secondRun (Equals a b) = record { first = a; count = b }
 secondRun (ContainsTerm a b) = record { first = a; count = b }
 
 pub record Sheet : Type 0 where
+  pub rules : Rules
   pub letters : List Span
   pub grammar : Grammar
   pub parts : List Part
@@ -63,9 +65,9 @@ letter s b = ltb b 256 && anyOf (λ r. leb (r .low) b && leb b (r .high)) (s .le
 unfoldable pub partsOf : Sheet → Run → List Part
 partsOf s r = take (r .count) (drop (r .first) (s .parts))
 
--- no cut in any of an assertion's terms reaches past the end of v at length n
+-- no cut in any of an assertion's terms reaches past the end of v at length n, or the rule shortens it
 unfoldable pub inside : Sheet → ℕ → Assertion → Bool
-inside s n a = allOf (cutInside n) (partsOf s (a .term)) && allOf (cutInside n) (partsOf s (secondRun (a .claim)))
+inside s n a = allOf (cutInside (s .rules) n) (partsOf s (a .term)) && allOf (cutInside (s .rules) n) (partsOf s (secondRun (a .claim)))
 
 -- ---- read from the bytes: the record that stands at o
 
@@ -101,6 +103,7 @@ grammarOf s = record { rows = tableOf rowAt s 2; text = textOf s }
 
 unfoldable pub sheetOf : List ℕ → Sheet
 sheetOf s = record {
+  rules = rulesOf s;
   letters = tableOf spanAt s 0;
   grammar = grammarOf s;
   parts = tableOf partAt s 3;

@@ -1,10 +1,11 @@
 -- Parts, terms and cuts. A place of a term is a byte that is known or one that is not.
 use Prim.Native.Nat.{ℕ, zero, suc, _+_, _-_}
-use mathlib.Core.Bool.{Bool, true, cond}
+use mathlib.Core.Bool.{Bool, true, cond, _||_}
 use mathlib.Core.List.{List, [], _∷_, _++_, map}
 use lib.Dec.{eqb, leb}
 use lib.ListN.{length, take, drop, replicate}
 use Rattle.paper.specs.Rows.{stretch}
+use Rattle.paper.specs.Rules.{Rules, shortens}
 
 pub data Part : Type 0 where
   Const : ℕ → ℕ → Part  -- 1: text from offset a, b bytes
@@ -26,7 +27,8 @@ pub data Place : Type 0 where
 unfoldable pub placesOf : ℕ → List ℕ → List Place
 placesOf n p = map Known p ++ replicate (n - length p) Unknown
 
--- what one part stands for, given the text and v; `known` makes an element of a byte, so that v may be a word or a list of places
+-- what one part stands for, given the text and v; `known` makes an element of a byte, so that v may be a word or a list of places;
+-- a cut off the end has "the bytes up to the end of v, none if the position is at or past the end"
 unfoldable pub piece : {A : Type 0} → (ℕ → A) → List ℕ → List A → Part → List A
 piece known text v (Const a b) = map known (stretch 0 text a b)
 piece known text v All = v
@@ -43,8 +45,8 @@ fullLength n (Const a b) = b
 fullLength n All = n
 fullLength n (Cut a b) = b
 
--- a cut does not reach past the end of v at length n
-unfoldable pub cutInside : ℕ → Part → Bool
-cutInside n (Const a b) = true
-cutInside n All = true
-cutInside n (Cut a b) = leb (a + b) n
+-- a cut is shortened by the rule, or does not reach past the end of v at length n
+unfoldable pub cutInside : Rules → ℕ → Part → Bool
+cutInside r n (Const a b) = true
+cutInside r n All = true
+cutInside r n (Cut a b) = shortens r || leb (a + b) n

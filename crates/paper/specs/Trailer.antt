@@ -1,11 +1,12 @@
 -- The problem sheet's trailer, and where its five tables lie: 0 letters, 1 text, 2 rows, 3 parts, 4 assertions.
 use Prim.Native.Nat.{ℕ, zero, suc, _+_, _*_, _-_}
 use mathlib.Core.List.{List, [], _∷_}
-use mathlib.Core.Bool.{Bool, _&&_}
+use mathlib.Core.Bool.{Bool, cond, _&&_}
 use lib.ListN.{length, getD}
 use lib.Dec.{leb, eqb}
 use Rattle.paper.specs.Bytes.{u8At, u16At, u32At, markAt}
 use Rattle.paper.specs.Tests.{firstBad}
+use Rattle.paper.specs.Rules.{Rules}
 
 -- a record's bytes, and the least and the greatest count, by table
 abbrev pub size : ℕ → ℕ
@@ -25,11 +26,11 @@ limit = 60
 unfoldable pub edition : List ℕ → ℕ
 edition s = u8At s (length s - 1) - 48
 
--- the bytes of an edition's trailer: 32 for `PRM1`
+-- the bytes of an edition's trailer: 32 for `PRM1`, 36 for `PRM2`
 abbrev pub trailerSize : ℕ → ℕ
 trailerSize e = 28 + 4 * e
 
--- the bytes of the longest sheet of an edition: full tables and its trailer, 3,376 for `PRM1`
+-- the bytes of the longest sheet of an edition: full tables and its trailer, 3,376 for `PRM1`, 3,380 for `PRM2`
 abbrev pub sheetMost : ℕ → ℕ
 sheetMost e = 3344 + trailerSize e
 
@@ -52,6 +53,13 @@ offsetOf s t = field s (2 + 2 * t)
 
 abbrev pub countOf : List ℕ → ℕ → ℕ
 countOf s t = field s (3 + 2 * t)
+
+-- "after the table fields four new bytes, namely cut rule .., comparison rule .. and two zeros"; `PRM1` has none, and each counts as 0
+unfoldable pub newByte : List ℕ → ℕ → ℕ
+newByte s k = cond (leb 2 (edition s)) (u8At s (base s + 24 + k)) 0
+
+unfoldable pub rulesOf : List ℕ → Rules
+rulesOf s = record { cut = newByte s 0; comparison = newByte s 1 }
 
 -- where record i of table t stands
 abbrev pub recordAt : List ℕ → (t i : ℕ) → ℕ
@@ -77,6 +85,10 @@ countOk s t = leb (least t) (countOf s t) && leb (countOf s t) (most t)
 -- 141: "shortest is at most longest; longest is at most 60"
 unfoldable pub lengthsOk : List ℕ → Bool
 lengthsOk s = leb (shortest s) (longest s) && leb (longest s) limit
+
+-- 16: "cut rule (0 or 1), comparison rule (0 for now) and two zeros"
+unfoldable pub rulesOk : List ℕ → Bool
+rulesOk s = leb (newByte s 0) 1 && (eqb (newByte s 1) 0 && (eqb (newByte s 2) 0 && eqb (newByte s 3) 0))
 
 -- 15: a table begins where the one before it ends
 unfoldable pub offsetOk : List ℕ → ℕ → Bool

@@ -10,10 +10,10 @@ use borrow.Author.Tests.{eqb-true, leb-true}
 use native.Mathlib.Omega.{arith}
 use Rattle.paper.specs.Bytes.{u8At}
 use Rattle.paper.specs.Tests.{firstBad}
-use Rattle.paper.specs.Trailer.{edition, trailerSize, sheetMost, size, least, most, limit, shortest, longest, offsetOf, countOf, recordAt, countOk, lengthsOk, offsetsOk, markOk, totalOk}
+use Rattle.paper.specs.Trailer.{edition, trailerSize, sheetMost, size, least, most, limit, shortest, longest, offsetOf, countOf, recordAt, countOk, lengthsOk, offsetsOk, rulesOk, markOk, totalOk}
 use Rattle.paper.specs.Sheet.{secondRun, assertionAt}
 use Rattle.paper.specs.Records.{letterOk, recordOk, badTable, termFits, assertFits, badTerm}
-use Rattle.paper.specs.Refusals.{Fault, plain, countFault, recordFault, termFault, unless, contentRefusal, tableRefusal, refusal}
+use Rattle.paper.specs.Refusals.{Fault, plain, countFault, ruleFault, recordFault, termFault, unless, contentRefusal, tableRefusal, refusal}
 use Rattle.paper.proofs.Tests.{and-left, and-right}
 use Rattle.sheet_trailer.specs.Placed.{Trailed, Laid}
 use Rattle.sheet_trailer.proofs.Search.{all-good}
@@ -54,7 +54,8 @@ tails s e =
     let a = pass (countFault s) (eqb (firstBad (countOk s) 5) 5) _ (omega arith) e in
     let b = pass (plain 141) (lengthsOk s) _ (omega arith) (a .1) in
     let c = pass (plain 15) (offsetsOk s) _ (omega arith) (b .1) in
-    let d = pass (recordFault s) (eqb (badTable s) 5) _ (omega arith) (c .1) in
+    let n = pass ruleFault (rulesOk s) _ (omega arith) (c .1) in
+    let d = pass (recordFault s) (eqb (badTable s) 5) _ (omega arith) (n .1) in
     let f = pass (termFault s) (eqb (badTerm s) (countOf s 4)) _ (omega arith) (d .1) in
     record {
       counts = eqb-true _ _ (a .0);

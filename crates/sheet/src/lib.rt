@@ -41,6 +41,13 @@ fn check_content(s: &[u8]) -> Fault
     requires { ⌜ Laid (now s) ⌝ }
     ensures { λ r. ⌜ r ≡ told (contentRefusal (now (s .entry))) ⌝ }
 {
+    if !sheet_trailer::rules_ok(s) {
+        return Fault {
+            number: 16,
+            table: 5,
+            record: 0,
+        };
+    }
     let t = sheet_records::bad_table(s);
     if t != 5 {
         let i = sheet_records::bad_record(s, t);
@@ -104,7 +111,7 @@ pub fn first_fault(s: &[u8], last: usize) -> Fault
 }
 
 // The last edition that the calls read.
-pub const LATEST: usize = 1;
+pub const LATEST: usize = 2;
 
 // The first fault of any bytes.
 pub fn check(s: &[u8]) -> Fault

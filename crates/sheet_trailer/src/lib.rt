@@ -1,9 +1,10 @@
-// A sheet's trailer: its edition, its fields by name, and the faults 12 to 15.
+// A sheet's trailer: its edition, its fields by name, its rules, and the faults 12 to 15.
 ghost use mathlib.Core.Path.{_≡_};
 ghost use Prim.Native.Nat.{_+_, _≤_, _<_};
 ghost use lib.ListN.{length};
 ghost use Rattle.paper.specs.Tests.{firstBad};
-ghost use Rattle.paper.specs.Trailer.{edition, base, field, shortest, longest, countOf, markOk, totalOk, lengthsOk, countOk, offsetsOk};
+ghost use Rattle.paper.specs.Trailer.{edition, base, field, shortest, longest, countOf, newByte, rulesOf, markOk, totalOk, lengthsOk, rulesOk, countOk, offsetsOk};
+ghost use Rattle.paper.specs.Rules as paper;
 ghost use Rattle.sheet_trailer.specs.Placed.{Trailed};
 ghost use Rattle.sheet_trailer.specs.Tables.{TableOf};
 
@@ -77,6 +78,41 @@ pub fn table_of(s: &[u8], t: usize) -> Table
     let at = field(s, 2 + 2 * t);
     let count = count_of(s, t);
     Table { at, count }
+}
+
+// Byte k of the four behind the table fields; 0 in the edition that has none.
+fn new_byte(s: &[u8], k: usize) -> usize
+    requires { ⌜ Trailed (now s) × (k < 4) ⌝ }
+    ensures { λ r. ⌜ (r ≡ newByte (now (s .entry)) k) × (r < 256) ⌝ }
+{
+    if edition(s) < 2 {
+        return 0;
+    }
+    numbers::wide(s[base(s) + 24 + k])
+}
+
+// A cut off the end of v is shortened.
+pub fn shortens(s: &[u8]) -> bool
+    requires { ⌜ Trailed (now s) ⌝ }
+    ensures { λ r. ⌜ r ≡ paper.shortens (rulesOf (now (s .entry))) ⌝ }
+{
+    new_byte(s, 0) == 1
+}
+
+pub fn rules_ok(s: &[u8]) -> bool
+    requires { ⌜ Trailed (now s) ⌝ }
+    ensures { λ r. ⌜ r ≡ rulesOk (now (s .entry)) ⌝ }
+{
+    if new_byte(s, 0) > 1 {
+        return false;
+    }
+    if new_byte(s, 1) != 0 {
+        return false;
+    }
+    if new_byte(s, 2) != 0 {
+        return false;
+    }
+    new_byte(s, 3) == 0
 }
 
 // The mark is that of an edition from 1 to `last`.

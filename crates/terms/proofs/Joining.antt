@@ -1,22 +1,21 @@
 -- A run of parts, a part at a time: cuts inside, and the places of the parts joined.
 use Prim.Native.Nat.{ℕ, zero, suc, _+_, _-_, _*_, _<_, _≤_}
 use mathlib.Core.Path.{_≡_, refl, sym, ap, _∙_}
-use mathlib.Core.Bool.{Bool, true, false, not, true≢false}
+use mathlib.Core.Bool.{Bool, true, false, true≢false}
 use mathlib.Core.List.{List, [], _∷_, _++_, append-nil, append-assoc}
 use native.Mathlib.Omega.{arith}
 use native.Mathlib.Numerals.{add-one}
-use native.Mathlib.Decide.{decLt}
-use borrow.Author.Tests.{lt-ltb, le-ltb, le-leb, lt-leb, leb-true}
-use lib.Dec.{ltb, leb}
+use borrow.Author.Tests.{le-leb, lt-leb, leb-true}
 use lib.ListN.{length, getD, take, drop, length-drop}
 use lib.Seq.{getD-take, getD-drop, length-take-le, take-suc, take-all}
 use Rattle.paper.specs.Tests.{allOf}
 use Rattle.paper.specs.Trailer.{countOf, recordAt}
 use Rattle.paper.specs.Records.{partLen, termLen}
+use Rattle.paper.specs.Rules.{Rules, shortens}
 use Rattle.paper.specs.Terms.{Place, Known, Part, Const, All, Cut, piece, term, fullLength, cutInside}
 use Rattle.paper.specs.Sheet.{Run, sheetOf, grammarOf, partsOf, textOf}
 use Rattle.paper.specs.Open.{termOn}
-use Rattle.paper.proofs.Tests.{all-of-at, at-all-of}
+use Rattle.paper.proofs.Tests.{or-right, or-false, all-of-at, at-all-of}
 use Rattle.sheet.proofs.Contents.{parts-length, part-here}
 use Rattle.terms.specs.declared.Places.{Places}
 use Rattle.terms.specs.Shown.{shown, Sized, Added, Readable}
@@ -31,19 +30,19 @@ one-fails f l d i h e = go (allOf f l) refl
     go true q = absurd (true≢false (sym (all-of-at f l d q i h) ∙ e))
     go false q = refl
 
-pub past-is : (a b n : ℕ) → cutInside n (Cut a b) ≡ not (ltb n (a + b))
+pub cut-fits : (r : Rules) (a b n : ℕ) → a + b ≤ n → cutInside r n (Cut a b) ≡ true
 unfolding cutInside
-past-is a b n = go (decLt n (a + b))
-  where
-    go : Dec (n < a + b) → leb (a + b) n ≡ not (ltb n (a + b))
-    go (yes l) = rw (lt-leb _ _ l, lt-ltb _ _ l)
-    go (no l) = let m : a + b ≤ n = omega arith in rw (le-leb _ _ m, le-ltb _ _ m)
+cut-fits r a b n h = rw (le-leb (a + b) n h) (or-right (shortens r) true refl)
+
+pub cut-over-rule : (r : Rules) (a b n : ℕ) → n < a + b → cutInside r n (Cut a b) ≡ shortens r
+unfolding cutInside
+cut-over-rule r a b n h = rw (lt-leb (a + b) n h) (or-false (shortens r))
 
 -- ---- the parts of a run
 
 -- no cut of the first i parts of a run reaches past n
 abbrev pub InsideTo : List ℕ → (first n i : ℕ) → Type 0
-InsideTo s first n i = (j : ℕ) → j < i → cutInside n (getD (sheetOf s .parts) (first + j) All) ≡ true
+InsideTo s first n i = (j : ℕ) → j < i → cutInside (sheetOf s .rules) n (getD (sheetOf s .parts) (first + j) All) ≡ true
 
 module _ (s : List ℕ) (r : Run) (run : r .first + r .count ≤ countOf s 3) where
   pub run-length : length (partsOf (sheetOf s) r) ≡ r .count
@@ -56,16 +55,13 @@ module _ (s : List ℕ) (r : Run) (run : r .first + r .count ≤ countOf s 3) wh
   unfolding partsOf
   run-at i h d = getD-take (r .count) (drop (r .first) (sheetOf s .parts)) i d h ∙ getD-drop (r .first) (sheetOf s .parts) i d
 
-  pub inside-all : (n : ℕ) → InsideTo s (r .first) n (r .count) → allOf (cutInside n) (partsOf (sheetOf s) r) ≡ true
+  pub inside-all : (n : ℕ) → InsideTo s (r .first) n (r .count) → allOf (cutInside (sheetOf s .rules) n) (partsOf (sheetOf s) r) ≡ true
   inside-all n h =
-      at-all-of (cutInside n) (partsOf (sheetOf s) r) All
+      at-all-of (cutInside (sheetOf s .rules) n) (partsOf (sheetOf s) r) All
       (λ k l. let m : k < r .count = rw run-length at l in rw (run-at k m All) (h k m))
 
-  pub all-inside : (n : ℕ) → allOf (cutInside n) (partsOf (sheetOf s) r) ≡ true → InsideTo s (r .first) n (r .count)
-  all-inside n e j l = rw (run-at j l All) at (all-of-at (cutInside n) (partsOf (sheetOf s) r) All e j (rw run-length l))
-
-  pub one-past : (n i : ℕ) → i < r .count → cutInside n (getD (sheetOf s .parts) (r .first + i) All) ≡ false → false ≡ allOf (cutInside n) (partsOf (sheetOf s) r)
-  one-past n i l e = one-fails (cutInside n) (partsOf (sheetOf s) r) All i (rw run-length l) (ap (cutInside n) (run-at i l All) ∙ e)
+  pub one-past : (n i : ℕ) → i < r .count → cutInside (sheetOf s .rules) n (getD (sheetOf s .parts) (r .first + i) All) ≡ false → false ≡ allOf (cutInside (sheetOf s .rules) n) (partsOf (sheetOf s) r)
+  one-past n i l e = one-fails (cutInside (sheetOf s .rules) n) (partsOf (sheetOf s) r) All i (rw run-length l) (ap (cutInside (sheetOf s .rules) n) (run-at i l All) ∙ e)
 
 -- ---- the places, a part at a time
 
@@ -121,9 +117,6 @@ module _ (s : List ℕ) (v : Places) (r : Run) (c : Readable s (v .len) r) where
       let m = rw z at (term-rises s (recordAt s 3 (r .first)) (r .count - suc i) (suc i)) in
       let e = term-more s (recordAt s 3 (r .first)) i in
       omega arith
-
-  pub next-inside : (i : ℕ) → i < r .count → cutInside (v .len) (nextPart s r i) ≡ true
-  next-inside i h = all-inside s r (c .run) (v .len) (c .within) i h
 
   pub join-more : (i : ℕ) (p q : Places) (x : Part) → Joined s v r i p → i < r .count → x ≡ nextPart s r i → Added (textOf s) p v x q → Joined s v r (i + 1) q
   join-more i p q x j h e d =

@@ -1,11 +1,11 @@
 -- What a `Places` stands for: made of bytes, pasted to, cut.
 use Prim.Native.Nat.{ℕ, zero, suc, _+_, _-_, _<_, _≤_}
 use mathlib.Core.Path.{_≡_, refl, sym, ap, _∙_}
-use mathlib.Core.List.{List, [], _∷_, _++_, map}
+use mathlib.Core.List.{List, [], _∷_, _++_, map, append-nil}
 use native.Mathlib.Omega.{arith}
 use borrow.Author.Tests.{lt-ltb}
-use lib.ListN.{length, getD, take, drop, replicate, length-map, length-drop}
-use lib.Seq.{paste, take-paste, length-paste, length-take-le, take-length, take-append-add, take-take, getD-drop}
+use lib.ListN.{length, getD, take, drop, replicate, length-map, length-drop, take-append-drop}
+use lib.Seq.{paste, take-paste, length-paste, length-take-le, take-length, take-append-add, take-take, take-all, getD-drop}
 use Rattle.paper.specs.Rows.{stretch}
 use Rattle.paper.specs.Terms.{Place, Known, Unknown, placesOf}
 use Rattle.paper.proofs.Derivation.{stretch-part}
@@ -38,6 +38,11 @@ places-drop zero s = refl
 places-drop (suc n) [] = refl
 places-drop (suc n) (x ∷ s) = places-drop n s
 
+pub take-most : (n : ℕ) (s : List ℕ) → length (take n s) ≤ n
+take-most zero s = omega arith
+take-most (suc n) [] = omega arith
+take-most (suc n) (x ∷ s) = let h = take-most n s in omega arith
+
 pub places-length : (s : List ℕ) → length (placesIn s) ≡ length s
 unfolding placesIn
 places-length s = length-map s placeOf
@@ -59,25 +64,30 @@ pasted-shown p s z h =
     let r = z .room in
     rw (take-paste (p .of) (p .len) s (length s) (omega arith) (omega arith), take-length s) (places-append (take (p .len) (p .of)) s)
 
+-- numbers of at most B: where some are taken or dropped, the others are
+module _ (B : ℕ) where
+  abbrev Low : List ℕ → Type 0
+  Low t = (i : ℕ) → i < length t → getD t i 0 ≤ B
+
+  taken : (n : ℕ) (t : List ℕ) → Low t → (i : ℕ) → getD (take n t) i 0 ≤ B
+  taken zero t h i = omega arith
+  taken (suc n) [] h i = omega arith
+  taken (suc n) (x ∷ t) h zero = h 0 (omega arith)
+  taken (suc n) (x ∷ t) h (suc i) = taken n t (λ j m. h (suc j) (omega arith)) i
+
+  all : (t : List ℕ) → Low t → (i : ℕ) → getD t i 0 ≤ B
+  all [] h i = omega arith
+  all (x ∷ t) h zero = h 0 (omega arith)
+  all (x ∷ t) h (suc i) = all t (λ j m. h (suc j) (omega arith)) i
+
+  dropped : (n : ℕ) (t : List ℕ) → Low t → (i : ℕ) → getD (drop n t) i 0 ≤ B
+  dropped n t h i = rw (getD-drop n t i 0) (all t h (n + i))
+
 getD-paste-cases : (d : List ℕ) (at : ℕ) (s : List ℕ) (B : ℕ) → ((i : ℕ) → i < length d → getD d i 0 ≤ B) → ((i : ℕ) → i < length s → getD s i 0 ≤ B)
     → (i : ℕ) → getD (paste d at s (length s)) i 0 ≤ B
 getD-paste-cases d at s B f g i =
-    below (take at d ++ take (length s) s) (drop (at + length s) d) (below (take at d) (take (length s) s) (taken at d f) (taken (length s) s g)) (dropped (at + length s) d f) i
+    below (take at d ++ take (length s) s) (drop (at + length s) d) (below (take at d) (take (length s) s) (taken B at d f) (taken B (length s) s g)) (dropped B (at + length s) d f) i
   where
-    taken : (n : ℕ) (t : List ℕ) → ((i : ℕ) → i < length t → getD t i 0 ≤ B) → (i : ℕ) → getD (take n t) i 0 ≤ B
-    taken zero t h i = omega arith
-    taken (suc n) [] h i = omega arith
-    taken (suc n) (x ∷ t) h zero = h 0 (omega arith)
-    taken (suc n) (x ∷ t) h (suc i) = taken n t (λ j m. h (suc j) (omega arith)) i
-
-    all : (t : List ℕ) → ((i : ℕ) → i < length t → getD t i 0 ≤ B) → (i : ℕ) → getD t i 0 ≤ B
-    all [] h i = omega arith
-    all (x ∷ t) h zero = h 0 (omega arith)
-    all (x ∷ t) h (suc i) = all t (λ j m. h (suc j) (omega arith)) i
-
-    dropped : (n : ℕ) (t : List ℕ) → ((i : ℕ) → i < length t → getD t i 0 ≤ B) → (i : ℕ) → getD (drop n t) i 0 ≤ B
-    dropped n t h i = rw (getD-drop n t i 0) (all t h (n + i))
-
     below : (t u : List ℕ) → ((i : ℕ) → getD t i 0 ≤ B) → ((i : ℕ) → getD u i 0 ≤ B) → (i : ℕ) → getD (t ++ u) i 0 ≤ B
     below [] u h k i = k i
     below (x ∷ t) u h k zero = h 0
@@ -143,15 +153,40 @@ v-shown s n b h k =
 
 -- ---- a part of v, and of the text
 
-cut-take : (a b n : ℕ) (t : List Place) → a + b ≤ n → take b (drop a t) ≡ take b (drop a (take n t))
-cut-take zero b n t h = sym (take-take b n t (omega arith))
-cut-take (suc a) b zero t h = absurd (omega arith)
-cut-take (suc a) b (suc n) [] h = refl
-cut-take (suc a) b (suc n) (x ∷ t) h = cut-take a b n t (omega arith)
+-- b numbers from a on of the first n
+abbrev pub cutOf : (a b n : ℕ) → List ℕ → List ℕ
+cutOf a b n t = take b (drop a (take n t))
 
-pub cut-shown : (v : Places) (a b : ℕ) → a + b ≤ v .len → placesIn (take b (drop a (v .of))) ≡ take b (drop a (shown v))
+drop-first : (a n : ℕ) (t : List ℕ) → drop a (take n t) ≡ take (n - a) (drop a t)
+drop-first zero n t = let z : n - 0 ≡ n = omega arith in rw z
+drop-first (suc a) zero t = let z : 0 - suc a ≡ 0 = omega arith in rw z
+drop-first (suc a) (suc n) [] = let z : suc n - suc a ≡ n - a = omega arith in rw z (sym (take-all (n - a) [] (omega arith)))
+drop-first (suc a) (suc n) (x ∷ t) = let z : suc n - suc a ≡ n - a = omega arith in rw z (drop-first a n t)
+
+-- where they lie inside, where they reach past the end, and where they begin there
+pub cut-inside : (a b n : ℕ) (t : List ℕ) → a + b ≤ n → take b (drop a t) ≡ cutOf a b n t
+cut-inside a b n t h = rw (drop-first a n t) (sym (take-take b (n - a) (drop a t) (omega arith)))
+
+pub cut-over : (a b n : ℕ) (t : List ℕ) → n ≤ a + b → take (n - a) (drop a t) ≡ cutOf a b n t
+cut-over a b n t h = rw (drop-first a n t) (sym (take-all b (take (n - a) (drop a t)) (omega (arith, take-most (n - a) (drop a t)))))
+
+pub cut-behind : (a b n : ℕ) (t : List ℕ) → n ≤ a → [] ≡ cutOf a b n t
+cut-behind a b n t h = let z : n - a ≡ 0 = omega arith in rw z at (cut-over a b n t (omega arith))
+
+pub cut-shown : (v : Places) (a b : ℕ) → placesIn (cutOf a b (v .len) (v .of)) ≡ take b (drop a (shown v))
 unfolding shown
-cut-shown v a b h = rw (places-take b, places-drop a, places-take (v .len)) (cut-take a b (v .len) (placesIn (v .of)) h)
+cut-shown v a b = rw (places-take b, places-drop a)
+
+pub cut-small : (v : Places) (a b : ℕ) → Sized v → (i : ℕ) → getD (cutOf a b (v .len) (v .of)) i 0 ≤ 256
+cut-small v a b z i =
+    let l = z .long in
+    taken 256 b (drop a (take (v .len) (v .of)))
+    (λ j m. dropped 256 a (take (v .len) (v .of)) (λ k n. taken 256 (v .len) (v .of) (λ k n. z .small k (omega arith)) k) j) i
+
+-- pasting nothing changes nothing
+pub pasted-none : (p : Places) → p ≡ pastedOf p []
+unfolding pastedOf
+pasted-none p = let z : p .len + 0 ≡ p .len = omega arith in rw (z, append-nil (take (p .len) (p .of)), take-append-drop (p .len) (p .of))
 
 pub text-known : (t : List ℕ) (a b : ℕ) → a + b ≤ length t → Bytes (take b (drop a t)) → placesIn (take b (drop a t)) ≡ map Known (stretch 0 t a b)
 text-known t a b h k = rw (stretch-part t a b h) (bytes-known (take b (drop a t)) k)

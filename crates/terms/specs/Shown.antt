@@ -5,11 +5,11 @@ use mathlib.Core.Bool.{Bool, true}
 use mathlib.Core.List.{List, _++_}
 use lib.ListN.{length, getD, take}
 use lib.Seq.{paste}
-use Rattle.paper.specs.Tests.{allBelow, allOf}
+use Rattle.paper.specs.Tests.{allBelow}
 use Rattle.paper.specs.Trailer.{countOf, longest}
 use Rattle.paper.specs.Records.{termFits}
-use Rattle.paper.specs.Terms.{Place, Known, Part, piece, fullLength, cutInside}
-use Rattle.paper.specs.Sheet.{Sheet, Run, sheetOf, partsOf}
+use Rattle.paper.specs.Terms.{Place, Known, Part, piece, fullLength}
+use Rattle.paper.specs.Sheet.{Sheet, Run}
 use Rattle.paper.specs.Opens.{meet}
 use Rattle.workspace.specs.Places.{placeOf, placesIn}
 use Rattle.terms.specs.declared.Places.{Places}
@@ -36,20 +36,14 @@ Bytes s = (i : ℕ) → i < length s → getD s i 0 < 256
 unfoldable pub pastedOf : Places → List ℕ → Places
 pastedOf p s = record { of = paste (p .of) (p .len) s (length s); len = p .len + length s }
 
--- there is room for a part behind p, and a cut lies inside v
-pub record Fitting (p v : Places) (x : Part) : Type 0 where
-  pub room : p .len + fullLength (v .len) x ≤ 60
-  pub within : cutInside (v .len) x ≡ true
-
 -- the part x stands behind p
 pub record Added (text : List ℕ) (p v : Places) (x : Part) (r : Places) : Type 0 where
   pub same : shown r ≡ shown p ++ piece Known text (shown v) x
   pub sized : Sized r
-  pub len : r .len ≡ p .len + fullLength (v .len) x
+  pub len : r .len ≤ p .len + fullLength (v .len) x
 
 -- a run of an accepted sheet whose term can be laid out at length n
 pub record Readable (s : List ℕ) (n : ℕ) (r : Run) : Type 0 where
   pub short : n ≤ longest s
   pub run : r .first + r .count ≤ countOf s 3
   pub fits : termFits s r ≡ true
-  pub within : allOf (cutInside n) (partsOf (sheetOf s) r) ≡ true

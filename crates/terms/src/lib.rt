@@ -3,18 +3,18 @@ pub mod meets;
 
 ghost use mathlib.Core.Path.{_≡_};
 ghost use mathlib.Core.Bool.{not};
-ghost use Prim.Native.Nat.{_+_, _≤_};
+ghost use Prim.Native.Nat.{_+_, _≤_, _<_};
 ghost use lib.ListN.{length, take, drop};
 ghost use Rattle.paper.specs.Tests.{allOf};
 ghost use Rattle.paper.specs.Trailer.{countOf};
-ghost use Rattle.paper.specs.Terms.{placesOf, cutInside};
+ghost use Rattle.paper.specs.Terms.{Cut, placesOf, fullLength, cutInside};
 ghost use Rattle.paper.specs.Sheet.{sheetOf, textOf, partsOf};
 ghost use Rattle.paper.specs.Open.{termOn};
 ghost use Rattle.paper.proofs.Sound.{SoundPart};
 ghost use Rattle.sheet_trailer.specs.Tables.{TableOf};
 ghost use Rattle.sheet_contents.specs.Read.{asPart, asRun, SmallPart};
 ghost use Rattle.sheet.specs.Good.{Good};
-ghost use Rattle.terms.specs.Shown.{shown, Sized, Bytes, pastedOf, Fitting, Added, Readable};
+ghost use Rattle.terms.specs.Shown.{shown, Sized, Bytes, pastedOf, Added, Readable};
 use sheet_contents::Part;
 use sheet_contents::Run;
 use sheet_trailer::Table;
@@ -69,13 +69,19 @@ pub fn all_of_v(prefix: &[u8], n: usize) -> Places
     Places { of, len: n }
 }
 
-// b places of v from place a on, behind those that are there.
-fn add_cut(p: Places, v: &[u16], a: usize, b: usize) -> Places
-    requires { ⌜ (p .len + b ≤ 60) × (a + b ≤ length (now v)) ⌝ }
-    ensures { λ r. ⌜ r ≡ pastedOf p (take b (drop a (now (v .entry)))) ⌝ }
+// The places of v from place a on, up to its end and at most b of them, behind those that are there; v has `len` places.
+fn add_cut(p: Places, v: &[u16], len: usize, a: usize, b: usize) -> Places
+    requires { ⌜ (p .len + b ≤ 60) × (len ≤ length (now v)) × (a < 65536) ⌝ }
+    ensures { λ r. ⌜ r ≡ pastedOf p (take b (drop a (take len (now (v .entry))))) ⌝ }
 {
     let e = a + b;
-    add_places(p, &v[a..e])
+    if e <= len {
+        return add_places(p, &v[a..e]);
+    }
+    if a < len {
+        return add_places(p, &v[a..len]);
+    }
+    p
 }
 
 // A constant's stretch of the text, behind the places that are there.
@@ -90,36 +96,47 @@ fn add_text(p: Places, s: &[u8], a: usize, b: usize) -> Places
 
 // One part, behind the places that are there.
 fn add_part(p: Places, s: &[u8], part: Part, v: Places) -> Places
-    requires { ⌜ Good (now s) × SoundPart (countOf (now s) 1) (asPart part) × Sized p × Sized v × Fitting p v (asPart part) ⌝ }
+    requires { ⌜ Good (now s) × SoundPart (countOf (now s) 1) (asPart part) × SmallPart (asPart part) × Sized p × Sized v × (p .len + fullLength (v .len) (asPart part) ≤ 60) ⌝ }
     ensures { λ r. ⌜ Added (textOf (now (s .entry))) p v (asPart part) r ⌝ }
 {
     match part {
         Part::Const(a, b) => add_text(p, s, a, b),
-        Part::All => add_cut(p, &v.of, 0, v.len),
-        Part::Cut(a, b) => add_cut(p, &v.of, a, b),
+        Part::All => add_cut(p, &v.of, v.len, 0, v.len),
+        Part::Cut(a, b) => add_cut(p, &v.of, v.len, a, b),
     }
 }
 
-// A cut that reaches past length n.
-fn past(part: Part, n: usize) -> bool
-    requires { ⌜ SmallPart (asPart part) ⌝ }
-    ensures { λ r. ⌜ cutInside n (asPart part) ≡ not r ⌝ }
+// A cut of b bytes from a on reaches past length n, and the sheet's rule does not shorten it.
+fn cut_past(s: &[u8], a: usize, b: usize, n: usize) -> bool
+    requires { ⌜ Good (now s) × (a < 65536) × (b < 65536) ⌝ }
+    ensures { λ r. ⌜ cutInside (sheetOf (now (s .entry)) .rules) n (Cut a b) ≡ not r ⌝ }
+{
+    if a + b <= n {
+        return false;
+    }
+    !sheet_trailer::shortens(s)
+}
+
+// The part is such a cut.
+fn past(s: &[u8], part: Part, n: usize) -> bool
+    requires { ⌜ Good (now s) × SmallPart (asPart part) ⌝ }
+    ensures { λ r. ⌜ cutInside (sheetOf (now (s .entry)) .rules) n (asPart part) ≡ not r ⌝ }
 {
     match part {
         Part::Const(_, _) => false,
         Part::All => false,
-        Part::Cut(a, b) => a + b > n,
+        Part::Cut(a, b) => cut_past(s, a, b, n),
     }
 }
 
-// No cut of a run of parts reaches past length n.
+// No cut of a run of parts does.
 pub fn inside(s: &[u8], parts: Table, n: usize, r: Run) -> bool
     requires { ⌜ Good (now s) × TableOf (now s) 3 parts × (r .first + r .count ≤ parts .count) ⌝ }
-    ensures { λ x. ⌜ x ≡ allOf (cutInside n) (partsOf (sheetOf (now (s .entry))) (asRun r)) ⌝ }
+    ensures { λ x. ⌜ x ≡ allOf (cutInside (sheetOf (now (s .entry)) .rules) n) (partsOf (sheetOf (now (s .entry))) (asRun r)) ⌝ }
 {
     let mut i = 0;
     while i < r.count {
-        if past(sheet::part_at(s, parts, r.first + i), n) {
+        if past(s, sheet::part_at(s, parts, r.first + i), n) {
             return false;
         }
         i += 1;

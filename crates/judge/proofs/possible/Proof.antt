@@ -15,12 +15,12 @@ inside-requires-2 c κs =
 term-requires : tie.Need-term-requires
 term-requires c κs =
     let s = c .before .before .before .before .before .before .before .before in
-    (s .pre .0 .good, s .pre .1, s .pre .3, readable-first _ _ (s .pre .2) _ (c .before .before .before .before .second-run .ensures) _ (s .pre .4) (sym (c .before .before .before .inside .ensures) ∙ c .before .before .if1 .taken))
+    (s .pre .0 .good, s .pre .1, s .pre .3, readable-first _ _ (s .pre .2) _ (c .before .before .before .before .second-run .ensures) _ (s .pre .4))
 
 term-requires-2 : tie.Need-term-requires-2
 term-requires-2 c κs =
     let s = c .before .before .before .before .before .before .before .before .before in
-    (s .pre .0 .good, s .pre .1, s .pre .3, readable-second _ _ (s .pre .2) _ (c .before .before .before .before .before .second-run .ensures) _ (s .pre .4) (sym (c .before .before .inside2 .ensures) ∙ c .before .if2 .taken))
+    (s .pre .0 .good, s .pre .1, s .pre .3, readable-second _ _ (s .pre .2) _ (c .before .before .before .before .before .second-run .ensures) _ (s .pre .4))
 
 can-be-requires : tie.Need-can-be-requires
 can-be-requires c κs =

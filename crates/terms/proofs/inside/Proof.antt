@@ -19,8 +19,8 @@ abbrev μ-loop : tie.MeasureT-loop
 μ-loop s parts n r i₀ i = r .count - i
 
 -- part i is tested
-tested : (c : tie.After-past Inv-loop μ-loop) → cutInside (c .before .before .before .before .before .before .before .args .n) (getD (sheetOf (c .before .before .before .before .before .before .before .args .s .now) .parts) (c .before .before .before .before .before .before .before .args .r .first + c .before .before .before .before .before .loop .i) All) ≡ not (c .past .result)
-tested c = ap (cutInside _) (sym (c .before .part-at .ensures .same All)) ∙ c .past .ensures
+tested : (c : tie.After-past Inv-loop μ-loop) → cutInside (sheetOf (c .before .before .before .before .before .before .before .args .s .now) .rules) (c .before .before .before .before .before .before .before .args .n) (getD (sheetOf (c .before .before .before .before .before .before .before .args .s .now) .parts) (c .before .before .before .before .before .before .before .args .r .first + c .before .before .before .before .before .loop .i) All) ≡ not (c .past .result)
+tested c = ap (cutInside _ _) (sym (c .before .part-at .ensures .same All)) ∙ c .past .ensures
 
 pub inside-spec : {M : Type 1} → statement M
 inside-spec =
@@ -31,7 +31,7 @@ inside-spec =
     (λ c. λ j l. absurd (omega arith))
     (λ c. omega (arith, c .before .before .before .before .before .pre .2))
     (λ c κs. (c .before .before .before .before .before .pre .0, c .before .before .before .before .before .pre .1, omega (arith, c .before .before .before .before .before .pre .2)))
-    (λ c κs. c .part-at .ensures .small)
+    (λ c κs. (c .before .before .before .before .before .before .pre .0, c .part-at .ensures .small))
     (λ c. one-past _ (asRun (c .before .before .before .before .before .before .before .before .args .r)) (omega (arith, c .before .before .before .before .before .before .before .before .pre .1 .counts, c .before .before .before .before .before .before .before .before .pre .2)) _ _ (c .before .before .before .before .if1 .taken) (tested (c .before) ∙ ap not (c .if2 .taken)))
     (λ c. omega arith)
     (λ c. omega arith)

@@ -1,6 +1,4 @@
-use native.Mathlib.Omega.{arith}
 use Rattle.paper.specs.Terms.{cutInside}
-use Rattle.terms.proofs.Joining.{past-is}
 use borrow.Author.Needs.{needs}
 use Rattle.terms.proofs.past.Statement.{statement}
 use Rattle.terms.proofs.past.Tie as tie
@@ -13,6 +11,11 @@ returns-2 : tie.Need-returns-2
 unfolding cutInside
 returns-2 c = rw (c .enum-told2 .given .1)
 
+cut-past-requires : tie.Need-cut-past-requires
+cut-past-requires c κs =
+    let small = rw (c .before .part .given .1) at (c .before .before .before .before .pre .1) in
+    (c .before .before .before .before .pre .0, small .0, small .1)
+
 pub past-spec : {M : Type 1} → statement M
 past-spec =
     tie.close
@@ -20,7 +23,7 @@ past-spec =
     (λ c. search needs)
     (λ c. search needs)
     (λ c. search needs)
-    (λ c. omega (arith, rw (c .before .part .given .1) at (c .before .before .before .pre)))
+    cut-past-requires
     returns
     returns-2
-    (λ c. rw (c .before .part .given .1) (past-is _ _ _)))
+    (λ c. rw (c .before .before .part .given .1) (c .cut-past .ensures)))

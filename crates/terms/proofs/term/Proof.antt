@@ -2,7 +2,7 @@ use Prim.Native.Nat.{_-_}
 use Rattle.paper.specs.Terms.{All}
 use Rattle.sheet_contents.specs.Read.{asRun}
 use Rattle.terms.proofs.Showing.{blank}
-use Rattle.terms.proofs.Joining.{Joined, join-start, next-room, next-inside, join-more, join-end}
+use Rattle.terms.proofs.Joining.{Joined, join-start, next-room, join-more, join-end}
 use native.Mathlib.Omega.{arith}
 use Rattle.terms.proofs.term.Statement.{statement}
 use Rattle.terms.proofs.term.Tie as tie
@@ -25,12 +25,10 @@ add-part-requires c κs =
     let j = c .before .before .before .before .loop .inv in (
       s .pre .0,
       c .part-at .ensures .sound,
+      c .part-at .ensures .small,
       j .sized,
       s .pre .2,
-      record {
-        room = rw e (next-room _ _ _ (s .pre .3) _ _ j (c .before .before .if1 .taken));
-        within = rw e (next-inside _ (s .args .v) _ (s .pre .3) _ (c .before .before .if1 .taken));
-      },
+      rw e (next-room _ _ _ (s .pre .3) _ _ j (c .before .before .if1 .taken)),
     )
 
 pub term-spec : {M : Type 1} → statement M
