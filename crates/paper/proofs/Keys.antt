@@ -16,12 +16,12 @@ use Rattle.paper.specs.Walk.{run, rising, tree, walk}
 use Rattle.paper.specs.Cuts.{splits, ownOpts, options, optionBytes, allBytes, headBytes, entry, group, groups, listTrailer, cutList}
 use Rattle.paper.specs.Gate.{trailerOf, groupAt}
 use Rattle.paper.specs.Answers.{words, walkOf, under, solverRefusal, solverSays}
-use Rattle.paper.specs.SheetBytes.{record6, record12, sheetBytes}
-use Rattle.paper.specs.Keys.{allOfV, vInRow, rowsB, sheetB, sheetK5, sheetK7, sheetK8, sheetK9, sheetK10, sheetK11, sheetK12, sheetWithin, sheetTerm, sheetLong, Right, keys}
+use Rattle.paper.specs.SheetBytes.{record6, record12, editionBytes, sheetBytes}
+use Rattle.paper.specs.Keys.{allOfV, vInRow, rowsB, sheetB, sheetK5, sheetK7, sheetCut, sheetK8, sheetK9, sheetK10, sheetK11, sheetK12, sheetWithin, sheetTerm, sheetLong, Right, keys}
 
 -- K1 to K12, the limits, and the keys of the changes
 pub keys-right : Every Right keys
-unfolding keys record6 record12 sheetBytes allOfV vInRow rowsB sheetB sheetK5 sheetK7 sheetK8 sheetK9 sheetK10 sheetK11 sheetK12 sheetWithin sheetTerm sheetLong
+unfolding keys record6 record12 editionBytes sheetBytes allOfV vInRow rowsB sheetB sheetK5 sheetK7 sheetCut sheetK8 sheetK9 sheetK10 sheetK11 sheetK12 sheetWithin sheetTerm sheetLong
     u16At u32At u16 u32 markAt anyBelow allBelow anyOf allOf firstFrom tableFrom gather
     edition base field newByte rulesOf startOf markOk totalOk countOk lengthsOk rulesOk offsetOk offsetsOk
     letterOk rowFields rowOk partFields partOk assertFields assertOk recordOk tableOk partLen termLen assertFits contentRefusal tableRefusal refusal
@@ -29,4 +29,4 @@ unfolding keys record6 record12 sheetBytes allOfV vInRow rowsB sheetB sheetK5 sh
     rounds closure nullRow nullRule nullable reachRow reachRule carried reaches fits someIn split ownRow level decide.upTo accepts
     allows pattern meet meetFrom canHold isUnknown canFail can possible opensOn opens run rising tree walk
     splits ownOpts options optionBytes allBytes headBytes entry group groups listTrailer cutList trailerOf groupAt words walkOf under solverRefusal solverSays
-keys-right = (refl, (refl, (refl, (refl, (refl, (refl, (refl, (refl, (refl, (refl, (refl, ((refl, refl), (refl, (refl, (refl, (refl, (refl, (refl, (refl, (refl, (refl, (refl, (refl, (refl, (refl, (refl, tt))))))))))))))))))))))))))
+keys-right = (refl, (refl, (refl, (refl, (refl, (refl, (refl, (refl, (refl, (refl, (refl, ((refl, refl), (refl, (refl, (refl, (refl, (refl, (refl, (refl, (refl, (refl, (refl, (refl, (refl, (refl, (refl, (refl, (refl, (refl, (refl, (refl, (refl, (refl, (refl, tt))))))))))))))))))))))))))))))))))

@@ -4,7 +4,7 @@ use mathlib.Core.Path.{_≡_}
 use mathlib.Core.List.{List, [], _∷_, _++_}
 use lib.ListN.{length, replicate}
 use Rattle.paper.specs.Bytes.{u16, u32}
-use Rattle.paper.specs.SheetBytes.{record6, record12, sheetBytes}
+use Rattle.paper.specs.SheetBytes.{record6, record12, editionBytes, sheetBytes}
 use Rattle.paper.specs.Tests.{tableFrom}
 use Rattle.paper.specs.Sheet.{grammarOf}
 use Rattle.paper.specs.Cuts.{cutList}
@@ -36,9 +36,12 @@ sheetK5 = sheetBytes 4 4 (60 ∷ 60 ∷ 62 ∷ 62 ∷ []) (60 ∷ 60 ∷ 62 ∷ 
 unfoldable pub sheetK7 : List ℕ
 sheetK7 = sheetBytes 1 1 (97 ∷ 98 ∷ []) (97 ∷ 98 ∷ []) [] (allOfV ++ (allOfV ++ record6 1 0 2)) (record12 3 0 0 2 2 1)
 
--- letter a; 1 byte of v from 2 not equal `x`; 0..3
+-- letter a (or the range a to high); 1 byte of v from 2 not equal `x`; 0..3; the edition that has these new bytes
+unfoldable pub sheetCut : (new : List ℕ) (high : ℕ) → List ℕ
+sheetCut new high = editionBytes new 0 3 (97 ∷ high ∷ []) (120 ∷ []) [] (record6 3 2 1 ++ record6 1 0 1) (record12 3 1 0 1 1 1)
+
 unfoldable pub sheetK8 : List ℕ
-sheetK8 = sheetBytes 0 3 (97 ∷ 97 ∷ []) (120 ∷ []) [] (record6 3 2 1 ++ record6 1 0 1) (record12 3 1 0 1 1 1)
+sheetK8 = sheetCut [] 97
 
 -- letter a; v contains `b`; 0..2
 unfoldable pub sheetK9 : List ℕ
@@ -117,4 +120,12 @@ keys =
     Refuses (sheetWithin 0 1 2) 7564 60 16 4 0 ∷  -- a second term past the parts is 16
     Refuses (sheetTerm 20 40 (record12 4 0 0 1 0 2)) 7564 60 0 0 0 ∷  -- a second term of 60 bytes passes
     Refuses (sheetTerm 20 41 (record12 4 0 0 1 0 2)) 7564 60 17 4 0 ∷  -- 61 is 17
+    Solves (sheetCut (0 ∷ 0 ∷ 0 ∷ 0 ∷ []) 97) million (Found (97 ∷ 97 ∷ 97 ∷ []) 7) ∷  -- K8 in the second edition, cut rule 0
+    Solves (sheetCut (1 ∷ 0 ∷ 0 ∷ 0 ∷ []) 97) million (Found [] 1) ∷  -- cut rule 1: the cut of the empty v is empty, which is not `x`
+    Refuses (sheetCut (2 ∷ 0 ∷ 0 ∷ 0 ∷ []) 97) 7564 60 16 5 0 ∷  -- cut rule 2 is 16
+    Refuses (sheetCut (0 ∷ 1 ∷ 0 ∷ 0 ∷ []) 97) 7564 60 16 5 0 ∷  -- so is comparison rule 1
+    Refuses (sheetCut (0 ∷ 0 ∷ 1 ∷ 0 ∷ []) 97) 7564 60 16 5 0 ∷  -- and a zero that is not
+    Refuses (sheetCut (0 ∷ 0 ∷ 0 ∷ 1 ∷ []) 96) 7564 60 16 5 0 ∷  -- before a bad record
+    Refuses (sheetCut (0 ∷ 0 ∷ 0 ∷ 0 ∷ []) 96) 7564 60 16 0 0 ∷  -- which is told where the new bytes are good
+    Refuses (replicate 28 0 ++ (80 ∷ 82 ∷ 77 ∷ 50 ∷ [])) 7564 60 13 0 0 ∷  -- a sheet of the second edition under 36 bytes is 13
     []
