@@ -3,6 +3,7 @@
 
 use std::collections::BTreeSet;
 
+use crate::second::edition::CutRule;
 use crate::second::gate::{Choice, CutList};
 use crate::second::sheet::{Assertion, Claim, Part, Row, Run, Sheet};
 use crate::second::solve::Walked;
@@ -37,8 +38,8 @@ pub fn satisfies(sheet: &Sheet, word: &[u8]) -> bool {
     sheet.assertions.iter().all(met)
 }
 
-/// The assertion's terms at length n, or nothing if a cut reaches past the end. The byte of v is
-/// asked for at each place anew.
+/// The assertion's terms at length n, or nothing if a cut reaches past the end and is not shortened.
+/// The byte of v is asked for at each place anew.
 fn terms(
     sheet: &Sheet,
     assertion: &Assertion,
@@ -59,10 +60,10 @@ fn term(sheet: &Sheet, run: Run, n: usize, v: &mut impl FnMut(usize) -> u8) -> O
             Part::Whole => (0, n),
             Part::Cut { position, bytes } => (position, position + bytes),
         };
-        if to > n {
+        if to > n && sheet.cut_rule == CutRule::Strict {
             return None;
         }
-        for position in from..to {
+        for position in (from..to).filter(|&position| position < n) {
             bytes.push(v(position));
         }
     }

@@ -90,7 +90,7 @@ impl Case<'_, '_> {
         for bytes in sheets {
             match Sheet::check(&bytes) {
                 Ok(sheet) => {
-                    self.comparison.tally.sheet(&sheet);
+                    self.comparison.tally.sheet(&bytes, &sheet);
                     self.walks(&bytes, &sheet)?;
                     self.lists(&bytes, &sheet)?;
                 }
@@ -289,7 +289,7 @@ impl Case<'_, '_> {
             return Ok(());
         };
         self.comparison.tally.sort("counted");
-        self.comparison.tally.sheet(&sheet);
+        self.comparison.tally.sheet(&bytes, &sheet);
         let answer = |_: &Sheet, budget: u64| {
             let trials = u64::try_from(counted.trials).ok().filter(|&trials| trials <= budget)?;
             Some(Walked { trials, found: counted.found.clone() })

@@ -1,6 +1,11 @@
 //! The writer of sheets: tables end to end, trailer last.
 
-use crate::second::sheet::{MARK, TABLES};
+use crate::second::edition::Edition;
+use crate::second::sheet::TABLES;
+
+/// The new bytes that give each cut rule.
+pub const CUT_RULE_0: [u8; 4] = [0; 4];
+pub const CUT_RULE_1: [u8; 4] = [1, 0, 0, 0];
 
 /// A row or a part: kind, a, b.
 pub type Record = (u8, u16, u16);
@@ -25,6 +30,8 @@ pub struct Draft {
     pub assertions: Vec<Statement>,
     pub shortest: u16,
     pub longest: u16,
+    /// Cut rule, comparison rule, two zeros; a sheet of the first edition has none.
+    pub new_bytes: Option<[u8; 4]>,
 }
 
 impl Draft {
@@ -41,10 +48,20 @@ impl Draft {
             offset += count * table.record;
         }
         trailer.iter().for_each(|field| bytes.extend(field.to_le_bytes()));
+        bytes.extend(self.new_bytes.iter().flatten());
         let total = bytes.len() as u32 + 8;
         bytes.extend(total.to_le_bytes());
-        bytes.extend(MARK);
+        bytes.extend(self.edition().mark());
         bytes
+    }
+
+    fn edition(&self) -> Edition {
+        self.new_bytes.map_or(Edition::First, |_| Edition::Second)
+    }
+
+    /// The same tables and lengths with these new bytes.
+    pub fn with_new_bytes(&self, new_bytes: [u8; 4]) -> Draft {
+        Draft { new_bytes: Some(new_bytes), ..self.clone() }
     }
 
     pub fn counts(&self) -> [usize; 5] {

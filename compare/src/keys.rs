@@ -1,6 +1,8 @@
 //! The sheets of the paper's keys, and faulty ones.
 
+use crate::cut_rules::cut_rules;
 use crate::draft::Draft;
+use crate::regions::regions;
 
 /// The budget of a key that names none.
 pub const BUDGET: u64 = 1_000_000;
@@ -8,14 +10,19 @@ pub const BUDGET: u64 = 1_000_000;
 /// A question to the solver: its sheet, its budget and the line the checking program would print.
 pub struct Key {
     pub name: &'static str,
-    pub sheet: Vec<u8>,
+    pub draft: Draft,
     pub budget: u64,
     pub line: &'static str,
 }
 
 /// The question that the draft asks.
 pub fn key(name: &'static str, draft: Draft, budget: u64, line: &'static str) -> Key {
-    Key { name, sheet: draft.bytes(), budget, line }
+    Key { name, draft, budget, line }
+}
+
+/// Every question whose sheet is written here and kept.
+pub fn kept() -> Vec<Key> {
+    keys().into_iter().chain(faulty()).chain(regions()).chain(cut_rules()).collect()
 }
 
 /// K1 to K11.
@@ -46,9 +53,11 @@ pub fn faulty() -> Vec<Key> {
         let long = draft.add_part(3, 0, 61);
         draft.assert((3, 1), (0, 1), (long, 1));
     };
+    let cut_rule_2 = |draft: &mut Draft| draft.new_bytes = Some([2, 0, 0, 0]);
     vec![
         faulty("faulty-count", |draft| draft.rows.resize(257, (1, 0, 0)), "refused 14 2 0"),
         faulty("faulty-lengths", |draft| draft.longest = 61, "refused 141"),
+        faulty("faulty-cut-rule", cut_rule_2, "refused 16 5 0"),
         faulty("faulty-row", |draft| draft.rows[5] = (5, 1, 7), "refused 16 2 5"),
         faulty("faulty-term", long_term, "refused 17 4 1"),
     ]

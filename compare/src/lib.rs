@@ -8,6 +8,7 @@ pub mod call;
 pub mod check;
 pub mod compare;
 pub mod count;
+pub mod cut_rules;
 pub mod draft;
 pub mod everyday;
 pub mod gen;

@@ -11,12 +11,10 @@ use compare::bench::{bench, Task};
 use compare::check::{check, check_alike, Report};
 use compare::compare::Difference;
 use compare::guards::guards;
-use compare::keys::{faulty, keys, BUDGET};
-use compare::program::line;
+use compare::keys::{kept, BUDGET};
+use compare::program::answer;
 use compare::proved::Proved;
-use compare::regions::regions;
-use compare::second::sheet::{LENGTH_LIMIT, SHEET_LIMIT};
-use compare::second::solve::{solve, WORK};
+use compare::second::sheet::SHEET_LIMIT;
 use compare::selfcheck::selfcheck;
 
 const USAGE: &str =
@@ -30,7 +28,7 @@ of the second program alone:
 compare self SEED COUNT              the second program against brute force
 compare solve                        one line for the sheet on standard input
 compare call TASK TIMES              calls it: SHEET, make or gate, as bench does
-compare write-keys FOLDER            the sheets of the keys, k1.sheet to k11.sheet, faulty and region ones";
+compare write-keys FOLDER            the sheets of the keys, k1.sheet to k11.sheet, and others that are kept";
 
 fn main() -> ExitCode {
     let arguments: Vec<String> = env::args().skip(1).collect();
@@ -100,9 +98,7 @@ fn run_solve() -> Result<(), String> {
     // One byte past the longest sheet is enough to refuse it.
     let most = SHEET_LIMIT as u64 + 1;
     io::stdin().take(most).read_to_end(&mut sheet).map_err(|error| error.to_string())?;
-    let mut out = [0; LENGTH_LIMIT];
-    let solved = solve(&sheet, BUDGET, &mut vec![0; WORK], &mut out);
-    println!("{}", line(&solved, &out));
+    println!("{}", answer(&sheet, BUDGET));
     Ok(())
 }
 
@@ -115,9 +111,9 @@ fn run_calls(task: &str, times: &str) -> Result<(), String> {
 }
 
 fn write_keys(folder: &str) -> Result<(), String> {
-    for key in keys().into_iter().chain(faulty()).chain(regions()) {
+    for key in kept() {
         let path = Path::new(folder).join(format!("{}.sheet", key.name));
-        fs::write(path, key.sheet).map_err(|error| error.to_string())?;
+        fs::write(path, key.draft.bytes()).map_err(|error| error.to_string())?;
     }
     Ok(())
 }

@@ -5,7 +5,8 @@ use std::collections::VecDeque;
 use crate::call::{bytes, words, Call, Name, Reply};
 use crate::second::gate::gate;
 use crate::second::make::{make, Made};
-use crate::second::solve::{solve, Solved};
+use crate::second::sheet::LENGTH_LIMIT;
+use crate::second::solve::{solve, Solved, WORK};
 
 pub trait Calls {
     fn solve(&self, sheet: &[u8], budget: u64, work: &mut [u64], out: &mut [u8]) -> Solved;
@@ -94,6 +95,13 @@ impl Made {
         let Made { number, table, record, length } = *self;
         [number, table, record, length].map(u64::from).to_vec()
     }
+}
+
+/// The checking program's line for a sheet.
+pub fn answer(sheet: &[u8], budget: u64) -> String {
+    let mut out = [0; LENGTH_LIMIT];
+    let solved = solve(sheet, budget, &mut vec![0; WORK], &mut out);
+    line(&solved, &out)
 }
 
 /// The checking program's line for a solver's answer.

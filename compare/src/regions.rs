@@ -62,6 +62,6 @@ fn inside(codes: &[&[u8]]) -> Draft {
 }
 
 /// The rows one after the other.
-fn add_joined(draft: &mut Draft, rows: &[u16]) -> u16 {
+pub fn add_joined(draft: &mut Draft, rows: &[u16]) -> u16 {
     rows.iter().copied().reduce(|one, other| draft.add_row(5, one, other)).expect("a row")
 }

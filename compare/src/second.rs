@@ -1,6 +1,7 @@
 //! The second program: the three calls, written from the papers alone.
 
 pub mod derive;
+pub mod edition;
 pub mod fault;
 pub mod gate;
 pub mod make;

@@ -3,6 +3,7 @@
 use std::collections::BTreeMap;
 use std::fmt;
 
+use crate::second::edition::{CutRule, Edition};
 use crate::second::fault::Fault;
 use crate::second::sheet::{Assertion, Claim, Sheet};
 
@@ -14,7 +15,7 @@ const ANSWERS: [(&str, &[u32]); 3] =
 const READERS: [&str; 2] = ["solve", "make"];
 
 /// Every number of a sheet's fault, the tables that it can name, and whether it names a record.
-const FAULTS: [(u32, &[u32], bool); 9] = [
+const FAULTS: [(u32, &[u32], bool); 10] = [
     (10, &[0], false),
     (11, &[0], false),
     (12, &[0], false),
@@ -22,8 +23,16 @@ const FAULTS: [(u32, &[u32], bool); 9] = [
     (14, &[0, 1, 2, 3, 4], false),
     (141, &[0], false),
     (15, &[0], false),
+    (16, &[5], false),
     (16, &[0, 2, 3, 4], true),
     (17, &[4], true),
+];
+
+/// Every edition, with each cut rule that it has.
+const EDITIONS: [(Edition, CutRule); 3] = [
+    (Edition::First, CutRule::Strict),
+    (Edition::Second, CutRule::Strict),
+    (Edition::Second, CutRule::Shortened),
 ];
 
 /// Every kind of assertion.
@@ -32,6 +41,7 @@ const KINDS: [u8; 4] = [1, 2, 3, 4];
 #[derive(Default)]
 pub struct Tally {
     sorts: BTreeMap<&'static str, u64>,
+    editions: BTreeMap<(Edition, CutRule), u64>,
     /// By kind, and whether it denies.
     assertions: BTreeMap<(u8, bool), u64>,
     /// Record 1 stands for every later one.
@@ -44,11 +54,22 @@ impl Tally {
         *self.sorts.entry(sort).or_default() += 1;
     }
 
-    /// Counts the assertions of an accepted sheet.
-    pub fn sheet(&mut self, sheet: &Sheet) {
+    /// Counts an accepted sheet by its edition and cut rule, and its assertions.
+    pub fn sheet(&mut self, bytes: &[u8], sheet: &Sheet) {
+        let edition = Edition::of(bytes).expect("an accepted sheet");
+        *self.editions.entry((edition, sheet.cut_rule)).or_default() += 1;
         for assertion in &sheet.assertions {
             *self.assertions.entry((kind(assertion), assertion.denied)).or_default() += 1;
         }
+    }
+
+    /// The least number of sheets that there were of an edition and a cut rule.
+    pub fn least_of_editions(&self) -> u64 {
+        EDITIONS.iter().map(|edition| self.edition(edition)).min().unwrap_or(0)
+    }
+
+    fn edition(&self, edition: &(Edition, CutRule)) -> u64 {
+        self.editions.get(edition).copied().unwrap_or(0)
     }
 
     /// How many assertions there were of the kind and sign.
@@ -80,6 +101,14 @@ impl Tally {
         }
         unmet.retain(|&(call, answer)| self.answered(call, answer) == 0);
         unmet
+    }
+}
+
+fn name((edition, cut_rule): (Edition, CutRule)) -> String {
+    let mark = String::from_utf8_lossy(edition.mark());
+    match cut_rule {
+        CutRule::Strict => format!("{mark}, cut rule 0"),
+        CutRule::Shortened => format!("{mark}, cut rule 1"),
     }
 }
 
@@ -123,6 +152,9 @@ impl fmt::Display for Tally {
     fn fmt(&self, f: &mut fmt::Formatter<'_>) -> fmt::Result {
         for (sort, count) in &self.sorts {
             writeln!(f, "cases {sort}: {count}")?;
+        }
+        for edition in EDITIONS {
+            writeln!(f, "sheets of {}: {}", name(edition), self.edition(&edition))?;
         }
         for kind in KINDS {
             let [asserted, denied] = [false, true].map(|denied| self.assertions(kind, denied));

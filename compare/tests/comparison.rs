@@ -4,10 +4,12 @@
 use compare::check::{check, check_alike};
 use compare::count::count;
 use compare::program::{Calls, Here, Second};
+use compare::second::edition::{CutRule, Edition, FIELDS};
 use compare::second::fault::Fault;
 use compare::second::make::Made;
-use compare::second::sheet::{read_u16, Sheet, ASSERTIONS, TABLES};
-use compare::second::solve::{solve_by, Solved, Walked, WORK};
+use compare::second::open::open;
+use compare::second::sheet::{read_u16, Part, Run, Sheet, ASSERTIONS, NEW_BYTES, TABLES};
+use compare::second::solve::{solve_by, walk, walk_by, Solved, Walked, WORK};
 use compare::selfcheck::selfcheck;
 
 #[test]
@@ -21,6 +23,7 @@ fn second_program_agrees_with_itself_and_meets_every_answer() {
     let report = check(&mut Here::new(Second), 7, 0..400, None).expect("no difference");
     assert_eq!(report.cases, 400);
     assert_eq!(report.tally.unmet(), []);
+    assert!(report.tally.least_of_editions() > 50);
     for (kind, denied) in [1, 2, 3, 4].into_iter().flat_map(|kind| [(kind, false), (kind, true)]) {
         assert!(report.tally.assertions(kind, denied) > 50, "{kind} {denied}");
     }
@@ -41,12 +44,38 @@ enum Wrong {
     ContainmentRefused,
     EqualForContained,
     TermsExchanged,
+    ShortenedUnderRule0,
+    StrictUnderRule1,
+    OneByteTooMany,
+    FirstEditionAlone,
+    LimitOfTheFirstEdition,
+    NoRoomForTheTrailer,
+    NewByteIgnored,
+    NewByteAfterRecords,
+    TableOfNewByte,
     MakerTable,
     MakerRecord,
     ListByte,
     SpaceAfterTheList,
     GateAlwaysYes,
     GateWorkspace,
+}
+
+const BAD_NEW_BYTE: Fault = Fault::at(16, NEW_BYTES, 0);
+
+/// Where the trailer begins.
+fn trailer(sheet: &[u8]) -> usize {
+    Edition::of(sheet).and_then(|edition| edition.trailer_start(sheet)).expect("a sheet's trailer")
+}
+
+/// Under rule 1 a byte behind the last one, which is never known, is one of a cut past the end.
+fn one_byte_too_many(sheet: &Sheet, prefix: &[u8], n: usize) -> bool {
+    let has_whole = |run: Run| sheet.run(run).contains(&Part::Whole);
+    sheet.assertions.iter().all(|assertion| {
+        let alone = Sheet { assertions: vec![*assertion], ..sheet.clone() };
+        let more = sheet.cut_rule == CutRule::Shortened && !assertion.terms().any(has_whole);
+        open(&alone, prefix, n + more as usize)
+    })
 }
 
 impl Wrong {
@@ -63,21 +92,58 @@ impl Wrong {
     /// The sheet as this program reads it.
     fn read(self, sheet: &[u8]) -> Vec<u8> {
         let mut sheet = sheet.to_vec();
-        if Sheet::check(&sheet).is_ok() {
-            let [offset, count] = [12, 10].map(|from_end| read_u16(&sheet, sheet.len() - from_end));
+        let fault = Sheet::check(&sheet).err();
+        if fault.is_none() {
+            let [offset, count] = [20, 22].map(|at| read_u16(&sheet, trailer(&sheet) + at));
             for assertion in sheet[offset..].chunks_mut(TABLES[ASSERTIONS].record).take(count) {
                 if assertion[0] == 4 {
                     self.change(assertion);
                 }
             }
         }
+        if fault == Some(BAD_NEW_BYTE) {
+            let mut mended = sheet.clone();
+            mended[trailer(&sheet) + FIELDS..][..4].fill(0);
+            let bad_record = Sheet::check(&mended).is_err_and(|fault| fault.number == 16);
+            match self {
+                Wrong::NewByteIgnored => return mended,
+                Wrong::NewByteAfterRecords if bad_record => return mended,
+                _ => {}
+            }
+        }
         sheet
+    }
+
+    fn walk(self, sheet: &Sheet, budget: u64) -> Option<Walked> {
+        let under = |cut_rule| walk(&Sheet { cut_rule, ..sheet.clone() }, budget);
+        match self {
+            Wrong::ShortenedUnderRule0 => under(CutRule::Shortened),
+            Wrong::StrictUnderRule1 => under(CutRule::Strict),
+            Wrong::OneByteTooMany => walk_by(one_byte_too_many, sheet, budget),
+            _ => walk(sheet, budget),
+        }
+    }
+
+    /// The number that this program gives to a sheet's edition or length.
+    fn refusal(self, sheet: &[u8]) -> Option<u32> {
+        let length = sheet.len();
+        let second = Edition::of(sheet) == Some(Edition::Second);
+        match self {
+            Wrong::FirstEditionAlone if second && (32..=3_380).contains(&length) => Some(12),
+            Wrong::LimitOfTheFirstEdition if length > 3_376 => Some(11),
+            Wrong::NoRoomForTheTrailer if second && (32..36).contains(&length) => Some(10),
+            _ => None,
+        }
     }
 }
 
 impl Calls for Wrong {
     fn solve(&self, sheet: &[u8], budget: u64, work: &mut [u64], out: &mut [u8]) -> Solved {
-        let mut solved = Second.solve(&self.read(sheet), budget, work, out);
+        if let Some(number) = self.refusal(sheet) {
+            return Solved::walked(number, 0, 0);
+        }
+        let walk = |sheet: &Sheet, budget| self.walk(sheet, budget);
+        let mut solved = solve_by(walk, &self.read(sheet), budget, work, out);
         let after = solved.length as usize;
         match self {
             Wrong::Trials if solved.number == 1 => solved.trials += 1,
@@ -85,6 +151,7 @@ impl Calls for Wrong {
             Wrong::Record if solved.number == 17 => solved.record += 1,
             Wrong::TableOfNone if solved.number == 1 => solved.table = 4,
             Wrong::LengthsForCounts if solved.number == 141 => solved.number = 14,
+            Wrong::TableOfNewByte if solved.fault() == BAD_NEW_BYTE => solved.table = 0,
             Wrong::OutputAfterTheWord if solved.number == 0 && after < out.len() => out[after] = 0,
             Wrong::WordAfterTheWorkspace if work.len() > WORK => work[WORK] = 0,
             Wrong::WorkspaceNotCleared if solved.number < 10 => work[WORK - 1] = 1,
@@ -135,6 +202,15 @@ fn every_way_of_differing_is_seen() {
         Wrong::ContainmentRefused,
         Wrong::EqualForContained,
         Wrong::TermsExchanged,
+        Wrong::ShortenedUnderRule0,
+        Wrong::StrictUnderRule1,
+        Wrong::OneByteTooMany,
+        Wrong::FirstEditionAlone,
+        Wrong::LimitOfTheFirstEdition,
+        Wrong::NoRoomForTheTrailer,
+        Wrong::NewByteIgnored,
+        Wrong::NewByteAfterRecords,
+        Wrong::TableOfNewByte,
         Wrong::MakerTable,
         Wrong::MakerRecord,
         Wrong::ListByte,

@@ -9,53 +9,23 @@ use compare::gen::contained::contained;
 use compare::gen::filters::filters;
 use compare::gen::limits::limits;
 use compare::gen::small::{run, small, stretch};
-use compare::program::line;
+use compare::program::answer;
 use compare::second::sheet::{Sheet, LENGTH_LIMIT, TABLES};
-use compare::second::solve::{solve, walk, WORK};
+use compare::second::solve::walk;
 use compare::seed::Seeded;
 
-fn answer(draft: &Draft, budget: u64) -> String {
-    let mut out = [9; 60];
-    let solved = solve(&draft.bytes(), budget, &mut [7; WORK], &mut out);
-    line(&solved, &out)
-}
+mod terms;
 
-#[derive(Clone, Copy)]
-enum Part {
-    Text(&'static [u8]),
-    V,
-    Cut(u16, u16),
-}
-
-use Part::{Cut, Text, V};
-
-fn add_term(draft: &mut Draft, parts: &[Part]) -> (u16, u16) {
-    let first = draft.parts.len() as u16;
-    for part in parts {
-        let (kind, a, b) = match *part {
-            Text(bytes) => {
-                let (from, bytes) = draft.add_text(bytes);
-                (1, from, bytes)
-            }
-            V => (2, 0, 0),
-            Cut(position, bytes) => (3, position, bytes),
-        };
-        draft.add_part(kind, a, b);
-    }
-    (first, parts.len() as u16)
-}
-
-/// Letters from a, and lengths.
-type Words = (u8, u16, u16);
+use terms::Part::{self, Cut, Text, V};
+use terms::{add_term, over, Words};
 
 /// What is answered where the term is to contain the second one, and where it is not to.
-fn answers((high, shortest, longest): Words, term: &[Part], second: &[Part]) -> [String; 2] {
+fn answers(words: Words, term: &[Part], second: &[Part]) -> [String; 2] {
     [0, 1].map(|sign| {
-        let letters = vec![(b'a', high)];
-        let mut draft = Draft { letters, shortest, longest, ..Draft::default() };
+        let mut draft = over(words);
         let (term, second) = (add_term(&mut draft, term), add_term(&mut draft, second));
         draft.assert((4, sign), term, second);
-        answer(&draft, 1_000)
+        answer(&draft.bytes(), 1_000)
     })
 }
 
@@ -130,8 +100,7 @@ fn cut_past_the_end() {
 #[test]
 fn alike_letters() {
     let trials = |term: Part, second: Part| {
-        let letters = vec![(b'a', b'z')];
-        let mut draft = Draft { letters, shortest: 6, longest: 6, ..Draft::default() };
+        let mut draft = over((b'z', 6, 6));
         let v = add_term(&mut draft, &[V]);
         let (term, second) = (add_term(&mut draft, &[term]), add_term(&mut draft, &[second]));
         draft.assert((4, 0), term, second);
@@ -196,7 +165,11 @@ fn constant_as_a_term() {
         }
         let (changed, count) = with_terms_for_constants(&draft);
         for budget in [20, 1_000] {
-            assert_eq!(answer(&draft, budget), answer(&changed, budget), "case {case}");
+            assert_eq!(
+                answer(&draft.bytes(), budget),
+                answer(&changed.bytes(), budget),
+                "case {case}"
+            );
         }
         agreed += count;
     }
@@ -228,15 +201,14 @@ fn constant_as_a_term_counted() {
 #[test]
 fn longest_constant() {
     let of_bytes = |bytes: usize| {
-        let letters = vec![(b'a', b'a')];
-        let mut draft = Draft { letters, shortest: 60, longest: 60, ..Draft::default() };
+        let mut draft = over((A, 60, 60));
         let v = draft.add_part(2, 0, 0);
         let text = draft.add_text(&vec![b'a'; bytes]);
         draft.assert((2, 0), (v, 1), text);
         let (changed, _) = with_terms_for_constants(&draft);
         let part = draft.add_part(1, text.0, text.1);
         draft.assert((4, 0), (v, 1), (part, 1));
-        [answer(&changed, 100), answer(&draft, 100)]
+        [answer(&changed.bytes(), 100), answer(&draft.bytes(), 100)]
     };
     let found = format!("found 60 61 {}", "61".repeat(60));
     assert_eq!(of_bytes(60), [&found[..], &found]);

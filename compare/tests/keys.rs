@@ -1,24 +1,17 @@
 //! The paper's keys K1 to K12 and the limits listed after them; faulty and everyday sheets.
 
 use compare::draft::Draft;
-use compare::keys::{brackets, faulty, keys, star_of_a};
-use compare::program::line;
-use compare::regions::regions;
+use compare::keys::{brackets, kept, star_of_a};
+use compare::program::answer;
 use compare::second::fault::Fault;
 use compare::second::gate::gate;
 use compare::second::make::{make, Made};
 use compare::second::solve::{solve, WORK};
 
-fn answer(sheet: &[u8], budget: u64) -> String {
-    let (mut work, mut out) = ([7; WORK], [9; 60]);
-    let solved = solve(sheet, budget, &mut work, &mut out);
-    line(&solved, &out)
-}
-
 #[test]
 fn solver_keys() {
-    for key in keys().into_iter().chain(faulty()).chain(regions()) {
-        assert_eq!(answer(&key.sheet, key.budget), key.line, "{}", key.name);
+    for key in kept() {
+        assert_eq!(answer(&key.draft.bytes(), key.budget), key.line, "{}", key.name);
     }
 }
 

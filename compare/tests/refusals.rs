@@ -3,6 +3,7 @@
 
 use compare::draft::Draft;
 use compare::gen::faults::{each_field, two_at_once, Faulty};
+use compare::gen::sizes::sizes;
 use compare::keys::{brackets, star_of_a};
 use compare::second::fault::Fault;
 use compare::second::gate::{gate, CutList};
@@ -55,8 +56,8 @@ fn frame() {
     assert_eq!(fault(&sheet), ACCEPTED);
     assert_eq!(fault(&[]), alone(10));
     assert_eq!(fault(&sheet[sheet.len() - 31..]), alone(10));
-    assert_eq!(fault(&[0; 3_377]), alone(11));
-    assert_eq!(fault(&[0; 3_376]), alone(12));
+    assert_eq!(fault(&[0; 3_381]), alone(11));
+    assert_eq!(fault(&[0; 3_380]), alone(12));
     assert_eq!(fault(&with(&sheet, -2, 0)), alone(12));
     assert_eq!(fault(&with(&sheet, -8, 1)), alone(13));
     assert_eq!(fault(&with(&sheet, -6, 1)), alone(13));
@@ -224,7 +225,7 @@ fn terms_after_records() {
 fn faults_in_known_places() {
     let sheets = |case| -> Vec<Faulty> {
         let s = &mut Seeded::new(11, case);
-        [each_field(s), two_at_once(s)].concat()
+        [each_field(s), two_at_once(s), sizes(s)].concat()
     };
     for (sheet, first) in (0..60).flat_map(sheets) {
         let solved = solve(&sheet, 9, &mut [], &mut []);

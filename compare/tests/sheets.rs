@@ -5,32 +5,29 @@ use std::path::PathBuf;
 
 use compare::count::count;
 use compare::everyday;
-use compare::keys::{faulty, keys, BUDGET};
-use compare::program::line;
-use compare::regions::regions;
+use compare::keys::{kept, BUDGET};
+use compare::program::answer;
 use compare::second::gate::gate;
 use compare::second::sheet::{read_u16, Sheet, TABLES};
-use compare::second::solve::{solve, WORK};
+use compare::second::solve::WORK;
 
-fn kept(name: &str) -> Vec<u8> {
+fn file(name: &str) -> Vec<u8> {
     let folder = PathBuf::from(env!("CARGO_MANIFEST_DIR")).join("../sheets");
     fs::read(folder.join(name)).expect("a file of the folder")
 }
 
 fn sheet(name: &str) -> Vec<u8> {
-    kept(&format!("{name}.sheet"))
+    file(&format!("{name}.sheet"))
 }
 
 /// The lines that the proved program is held to.
 #[test]
 fn answers() {
-    let lines = String::from_utf8(kept("answers")).expect("text");
+    let lines = String::from_utf8(file("answers")).expect("text");
     assert!(lines.lines().count() > 20);
-    for (name, answer) in lines.lines().map(|line| line.split_once(' ').expect("a name and a line"))
-    {
-        let mut out = [0; 60];
-        let solved = solve(&sheet(name), BUDGET, &mut [0; WORK], &mut out);
-        assert_eq!(line(&solved, &out), answer, "{name}");
+    for line in lines.lines() {
+        let (name, line) = line.split_once(' ').expect("a name and a line");
+        assert_eq!(answer(&sheet(name), BUDGET), line, "{name}");
     }
 }
 
@@ -70,7 +67,7 @@ fn asked_back() {
 
 #[test]
 fn kept_keys() {
-    for key in keys().into_iter().chain(faulty()).chain(regions()) {
-        assert_eq!(sheet(key.name), key.sheet, "{}", key.name);
+    for key in kept() {
+        assert_eq!(sheet(key.name), key.draft.bytes(), "{}", key.name);
     }
 }

@@ -1,5 +1,6 @@
 //! Sheets with many letters that are alike, or told apart by one thing.
 
+use super::new_bytes;
 use crate::draft::Draft;
 use crate::seed::Seeded;
 
@@ -38,6 +39,7 @@ fn draft(s: &mut Seeded, letters: &[(u8, u8)], most: usize) -> Draft {
         letters: letters.to_vec(),
         shortest: s.pick(&[0, longest as u16]),
         longest: longest as u16,
+        new_bytes: new_bytes(s),
         ..Draft::default()
     };
     draft.add_part(2, 0, 0);
@@ -102,7 +104,7 @@ fn told_by_byte(s: &mut Seeded, draft: &mut Draft) {
         }
         _ => {
             let position = s.below(draft.longest as usize + 1) as u16;
-            let cut = draft.add_part(3, position, 1);
+            let cut = draft.add_part(3, position, s.pick(&[1, 1, 3]));
             let constant = draft.add_part(1, from, bytes);
             draft.assert((3, sign), (cut, 1), (constant, 1));
         }

@@ -1,6 +1,7 @@
 //! Terms claimed to contain terms: constants, v, cuts and joined ones on either side, so that the
 //! claim is met and missed by all of them.
 
+use super::new_bytes;
 use crate::draft::Draft;
 use crate::seed::Seeded;
 
@@ -11,6 +12,7 @@ pub fn contained(s: &mut Seeded, most: usize) -> Draft {
         letters: vec![(b'a', b'a' + s.below(3) as u8)],
         shortest: s.between(0, longest) as u16,
         longest: longest as u16,
+        new_bytes: new_bytes(s),
         ..Draft::default()
     };
     for _ in 0..s.between(1, 3) {
@@ -53,7 +55,7 @@ fn add_cut(s: &mut Seeded, draft: &mut Draft) -> u16 {
 }
 
 /// A few letters, and now and then a byte that is none.
-fn add_constant(s: &mut Seeded, draft: &mut Draft) -> u16 {
+pub fn add_constant(s: &mut Seeded, draft: &mut Draft) -> u16 {
     let mut word = Vec::new();
     for _ in 0..s.between(0, 3) {
         let (low, high) = s.pick(&draft.letters);

@@ -3,22 +3,23 @@
 use super::alike::alike;
 use super::broken::break_record;
 use super::contained::contained;
+use super::cuts::cuts;
 use super::filters::filters;
 use super::limits::limits;
 use super::small::small;
+use super::trailer_start;
 use crate::draft::Draft;
-use crate::second::sheet::{read_u16, MARK, SHEET_LIMIT, TABLES, TRAILER};
+use crate::second::edition::{EDITIONS, FIELDS, TOTAL_AND_MARK};
+use crate::second::sheet::{read_u16, SHEET_LIMIT, TABLES};
 use crate::seed::Seeded;
 
-/// Where the trailer's fields are, from its start.
-const TOTAL: usize = 24;
-
 pub fn damaged(s: &mut Seeded) -> Vec<u8> {
-    let mut draft = match s.below(6) {
+    let mut draft = match s.below(7) {
         0 => limits(s),
         1 => alike(s),
         2 => filters(s, 5),
         3 => contained(s, 4),
+        4 => cuts(s, 4),
         _ => small(s, 2),
     };
     let faults = s.between(1, 2);
@@ -53,11 +54,14 @@ pub fn with_byte_changed(s: &mut Seeded, bytes: &[u8], at: usize) -> Vec<u8> {
 
 /// Bytes of no sheet, most of them with a mark and a total that pass.
 pub fn random_bytes(s: &mut Seeded) -> Vec<u8> {
-    let length =
-        s.pick(&[0, 1, 31, 32, 33, 40, 100, SHEET_LIMIT - 1, SHEET_LIMIT, SHEET_LIMIT + 1]);
+    let length = match s.below(5) {
+        0 => s.pick(&[0, 1, 100]),
+        1..=2 => s.between(30, 40),
+        _ => s.between(SHEET_LIMIT - 5, SHEET_LIMIT + 1),
+    };
     let mut bytes: Vec<u8> = (0..length).map(|_| s.byte()).collect();
-    if length >= TRAILER && !s.once_in(4) {
-        restore_end(&mut bytes);
+    if !s.once_in(4) {
+        restore_end(s, &mut bytes);
     }
     bytes
 }
@@ -95,16 +99,19 @@ fn add_long_term(s: &mut Seeded, draft: &mut Draft) {
 }
 
 fn damage_bytes(s: &mut Seeded, bytes: &mut Vec<u8>) {
-    match s.below(16) {
+    let Some(trailer) = trailer_start(bytes) else {
+        return cut(s, bytes);
+    };
+    match s.below(18) {
         0 => cut(s, bytes),
-        1 => grow(s, bytes),
-        _ if bytes.len() < TRAILER => cut(s, bytes),
-        2 => change_mark(s, bytes),
-        3 => change_pair(s, bytes),
-        4..=6 => change_field(s, bytes),
-        7 => change_any_byte(s, bytes),
-        8..=10 => change_zero(s, bytes),
-        _ => change_record(s, bytes),
+        1 => grow(s, bytes, trailer),
+        2..=3 => change_mark(s, bytes),
+        4 => change_pair(s, bytes, trailer),
+        5..=7 => change_field(s, bytes, trailer),
+        8 => change_new_byte(s, bytes, trailer),
+        9 => change_any_byte(s, bytes),
+        10..=12 => change_zero(s, bytes, trailer),
+        _ => change_record(s, bytes, trailer),
     }
 }
 
@@ -118,54 +125,64 @@ fn cut(s: &mut Seeded, bytes: &mut Vec<u8>) {
         bytes.drain(at..end);
     }
     if s.once_in(2) {
-        restore_end(bytes);
+        restore_end(s, bytes);
     }
 }
 
 /// Puts bytes in, a few or up to the longest sheet and past it.
-fn grow(s: &mut Seeded, bytes: &mut Vec<u8>) {
+fn grow(s: &mut Seeded, bytes: &mut Vec<u8>, trailer: usize) {
     let to_limit = SHEET_LIMIT.saturating_sub(bytes.len());
-    let more = s.pick(&[1, 2, 6, 12, 40, to_limit, to_limit + 1, to_limit + 100]);
-    let at = s.pick(&[0, bytes.len().saturating_sub(TRAILER), bytes.len()]);
+    let near_limit = to_limit.saturating_sub(s.below(5));
+    let more = s.pick(&[1, 2, 4, 6, 12, 40, near_limit, to_limit, to_limit + 1, to_limit + 100]);
+    let at = s.pick(&[0, trailer, bytes.len() - TOTAL_AND_MARK, bytes.len()]);
     let filling = s.pick(&[0, 1, 255]);
     bytes.splice(at..at, std::iter::repeat_n(filling, more));
     if s.once_in(2) {
-        restore_end(bytes);
+        restore_end(s, bytes);
     }
 }
 
-/// Writes the mark and the total that the length asks for.
-fn restore_end(bytes: &mut [u8]) {
-    if let Some(end) = bytes.len().checked_sub(8) {
+/// Writes the total that the length asks for, and the mark of either edition.
+fn restore_end(s: &mut Seeded, bytes: &mut [u8]) {
+    if let Some(end) = bytes.len().checked_sub(TOTAL_AND_MARK) {
         let total = bytes.len() as u32;
         bytes[end..end + 4].copy_from_slice(&total.to_le_bytes());
-        bytes[end + 4..].copy_from_slice(MARK);
+        bytes[end + 4..].copy_from_slice(s.pick(&EDITIONS).mark());
     }
 }
 
+/// The mark of either edition, or of none.
 fn change_mark(s: &mut Seeded, bytes: &mut [u8]) {
-    let at = bytes.len() - s.between(1, 4);
-    bytes[at] ^= s.between(1, 255) as u8;
+    let mark = bytes.len() - 4;
+    if s.once_in(2) {
+        bytes[mark..].copy_from_slice(s.pick(&EDITIONS).mark());
+    } else {
+        bytes[mark + s.below(4)] ^= s.between(1, 255) as u8;
+    }
 }
 
-/// A field of the trailer: one of the lengths, offsets, counts or the total.
-fn change_field(s: &mut Seeded, bytes: &mut [u8]) {
-    let at = bytes.len() - TRAILER + 2 * s.between(0, TOTAL / 2 + 1);
-    change_u16(s, bytes, at);
+/// A field of the trailer: all of it but the mark is taken for fields of two bytes.
+fn change_field(s: &mut Seeded, bytes: &mut [u8], trailer: usize) {
+    let at = trailer + 2 * s.below((bytes.len() - 4 - trailer) / 2);
+    change_u16(s, bytes, trailer, at);
 }
 
-fn change_pair(s: &mut Seeded, bytes: &mut [u8]) {
-    let at = bytes.len() - TRAILER;
+/// In the first edition the total stands where the second has the new bytes.
+fn change_new_byte(s: &mut Seeded, bytes: &mut [u8], trailer: usize) {
+    bytes[trailer + FIELDS + s.below(4)] = s.pick(&[0, 1, 2, 255]);
+}
+
+fn change_pair(s: &mut Seeded, bytes: &mut [u8], trailer: usize) {
     let (shortest, longest): (u16, u16) =
         s.pick(&[(0, 61), (61, 61), (1, 0), (60, 59), (9, 65_535)]);
-    bytes[at..at + 2].copy_from_slice(&shortest.to_le_bytes());
-    bytes[at + 2..at + 4].copy_from_slice(&longest.to_le_bytes());
+    bytes[trailer..trailer + 2].copy_from_slice(&shortest.to_le_bytes());
+    bytes[trailer + 2..trailer + 4].copy_from_slice(&longest.to_le_bytes());
 }
 
-fn change_u16(s: &mut Seeded, bytes: &mut [u8], at: usize) {
+fn change_u16(s: &mut Seeded, bytes: &mut [u8], trailer: usize, at: usize) {
     let old = read_u16(bytes, at) as u16;
     let limits = TABLES.map(|table| table.most as u16 + 1);
-    let count = read_u16(bytes, bytes.len() - TRAILER + 6 + 4 * s.below(5)) as u16;
+    let count = read_u16(bytes, trailer + 6 + 4 * s.below(5)) as u16;
     let new = match s.below(6) {
         0 => old.wrapping_add(1),
         1 => old.wrapping_sub(1),
@@ -179,8 +196,7 @@ fn change_u16(s: &mut Seeded, bytes: &mut [u8], at: usize) {
 }
 
 /// Where a record of the table begins, as the trailer now gives the tables; nothing if nowhere.
-fn record(s: &mut Seeded, bytes: &[u8], table: usize) -> Option<usize> {
-    let trailer = bytes.len() - TRAILER;
+fn record(s: &mut Seeded, bytes: &[u8], trailer: usize, table: usize) -> Option<usize> {
     let offset = read_u16(bytes, trailer + 4 + 4 * table);
     let count = read_u16(bytes, trailer + 6 + 4 * table);
     let size = TABLES[table].record;
@@ -189,24 +205,24 @@ fn record(s: &mut Seeded, bytes: &[u8], table: usize) -> Option<usize> {
 }
 
 /// A byte or a field of a record.
-fn change_record(s: &mut Seeded, bytes: &mut [u8]) {
+fn change_record(s: &mut Seeded, bytes: &mut [u8], trailer: usize) {
     let table = s.below(5);
-    let Some(start) = record(s, bytes, table) else {
+    let Some(start) = record(s, bytes, trailer, table) else {
         return change_any_byte(s, bytes);
     };
     let size = TABLES[table].record;
     if size > 2 && s.once_in(2) {
         let field = s.between(1, size / 2 - 1);
-        change_u16(s, bytes, start + 2 * field);
+        change_u16(s, bytes, trailer, start + 2 * field);
     } else {
         bytes[start + s.below(size)] = s.pick(&[0, 1, 2, 3, 4, 5, 6, 7, 255]);
     }
 }
 
 /// A zero field of a row, a part or an assertion.
-fn change_zero(s: &mut Seeded, bytes: &mut [u8]) {
+fn change_zero(s: &mut Seeded, bytes: &mut [u8], trailer: usize) {
     let (table, at) = s.pick(&[(2, 1), (3, 1), (4, 10), (4, 11)]);
-    match record(s, bytes, table) {
+    match record(s, bytes, trailer, table) {
         Some(start) => bytes[start + at] = s.pick(&[1, 2, 128, 255]),
         None => change_any_byte(s, bytes),
     }

@@ -1,10 +1,11 @@
 //! Sheets that are accepted but for faults in known places, so that it is known which is the first.
 
+use super::new_bytes;
 use super::small::{add_rows, part, range, stretch};
-use super::wrong::{offset_field, wrong_fields, Field};
+use super::wrong::{lengths_field, offset_field, wrong_fields, wrong_new_byte, Field};
 use crate::draft::Draft;
 use crate::second::fault::Fault;
-use crate::second::sheet::{read_u16, ASSERTIONS, LENGTH_LIMIT, LETTERS, TABLES, TEXT, TRAILER};
+use crate::second::sheet::{read_u16, ASSERTIONS, LENGTH_LIMIT, LETTERS, NEW_BYTES, TABLES, TEXT};
 use crate::seed::Seeded;
 
 /// A place that can be at fault, in the order in which a sheet is checked.
@@ -15,6 +16,7 @@ pub enum Spot {
     Count { table: usize },
     Lengths,
     Offset { table: usize },
+    NewByte { number: usize },
     Record { table: usize, record: usize },
     Term { assertion: usize },
 }
@@ -28,6 +30,7 @@ impl Spot {
             Spot::Count { table } => Fault::at(14, table, 0),
             Spot::Lengths => Fault::alone(141),
             Spot::Offset { .. } => Fault::alone(15),
+            Spot::NewByte { .. } => Fault::at(16, NEW_BYTES, 0),
             Spot::Record { table, record } => Fault::at(16, table, record),
             Spot::Term { assertion } => Fault::at(17, ASSERTIONS, assertion),
         }
@@ -46,21 +49,39 @@ pub fn two_at_once(s: &mut Seeded) -> Vec<Faulty> {
     spots.into_iter().map(|other| base.with(s, one, other)).collect()
 }
 
-/// Each field of each record in turn.
+/// Each new byte, then each field of each record in turn.
 pub fn each_field(s: &mut Seeded) -> Vec<Faulty> {
     let counts = [2, 4, s.between(2, 6), s.between(2, 4), s.between(2, 4)];
-    let bytes = Base::new(s, counts).draft.bytes();
+    let draft = sound(s, counts);
+    let bytes = draft.bytes();
     let mut sheets = Vec::new();
+    let mut add = |field: Field, fault| {
+        let mut bytes = bytes.clone();
+        field.write(&mut bytes);
+        sheets.push((bytes, fault));
+    };
+    for number in new_byte_numbers(&draft) {
+        for field in wrong_new_byte(&bytes, number) {
+            add(field, Fault::at(16, NEW_BYTES, 0));
+        }
+    }
     for (table, count) in counts.into_iter().enumerate() {
         for record in 0..count {
             for field in wrong_fields(&bytes, table, record) {
-                let mut bytes = bytes.clone();
-                field.write(&mut bytes);
-                sheets.push((bytes, Fault::at(16, table, record)));
+                add(field, Fault::at(16, table, record));
             }
         }
     }
     sheets
+}
+
+/// An accepted sheet with so many records in each table.
+pub fn sound(s: &mut Seeded, counts: [usize; 5]) -> Draft {
+    Base::new(s, counts).draft
+}
+
+fn new_byte_numbers(draft: &Draft) -> std::ops::Range<usize> {
+    0..draft.new_bytes.map_or(0, |bytes| bytes.len())
 }
 
 /// An accepted sheet, and a cut in its parts that is too long for a term; no term has it yet.
@@ -72,7 +93,8 @@ struct Base {
 impl Base {
     fn new(s: &mut Seeded, counts: [usize; 5]) -> Base {
         let [letters, text, rows, parts, assertions] = counts;
-        let mut draft = Draft { shortest: 1, longest: 3, ..Draft::default() };
+        let new_bytes = new_bytes(s);
+        let mut draft = Draft { shortest: 1, longest: 3, new_bytes, ..Draft::default() };
         draft.letters = (0..letters).map(|_| range(s)).collect();
         draft.text = (0..text).map(|_| s.pick(b"abx")).collect();
         add_rows(s, &mut draft, rows);
@@ -104,6 +126,7 @@ impl Base {
     /// Every spot but for the records, of which the first, the last and any other are taken.
     fn spots(&self, s: &mut Seeded) -> Vec<Spot> {
         let mut spots = vec![Spot::Mark, Spot::Total, Spot::Lengths];
+        spots.extend(new_byte_numbers(&self.draft).map(|number| Spot::NewByte { number }));
         for (table, count) in self.draft.counts().into_iter().enumerate() {
             spots.extend([Spot::Count { table }, Spot::Offset { table }]);
             for record in [0, s.below(count), count - 1] {
@@ -149,9 +172,9 @@ impl Base {
 
 /// A field that is at fault in the spot, and what it holds; nothing for a term.
 fn wrong(s: &mut Seeded, bytes: &[u8], spot: Spot) -> Option<Field> {
-    let lengths = bytes.len() - TRAILER;
+    let lengths = lengths_field(bytes);
     Some(match spot {
-        Spot::Mark => Field::Byte(bytes.len() - 1, s.pick(b"\x000Q")),
+        Spot::Mark => Field::Byte(bytes.len() - 1, s.pick(b"\x0003Q")),
         Spot::Total => Field::Word(bytes.len() - 8, bytes.len() as u16 + s.pick(&[1, 256])),
         Spot::Count { table } => {
             let many = s.pick(&[TABLES[table].most as u16 + 1, 65_535]);
@@ -166,6 +189,7 @@ fn wrong(s: &mut Seeded, bytes: &[u8], spot: Spot) -> Option<Field> {
             let offset = read_u16(bytes, at) as u16;
             Field::Word(at, s.pick(&[offset.wrapping_add(1), offset.wrapping_sub(1)]))
         }
+        Spot::NewByte { number } => s.pick(&wrong_new_byte(bytes, number)),
         Spot::Record { table, record } => s.pick(&wrong_fields(bytes, table, record)),
         Spot::Term { .. } => return None,
     })

@@ -2,6 +2,7 @@
 //! turn back often, and end both ways.
 
 use super::contained::add_containment;
+use super::new_bytes;
 use super::small::{add_assertion, add_word_comparison, run, stretch};
 use crate::draft::Draft;
 use crate::seed::Seeded;
@@ -13,6 +14,7 @@ pub fn filters(s: &mut Seeded, most: usize) -> Draft {
         letters: vec![(b'a', b'a' + s.between(0, 3) as u8)],
         shortest: s.between(0, longest.min(3)) as u16,
         longest: longest as u16,
+        new_bytes: new_bytes(s),
         ..Draft::default()
     };
     if s.once_in(3) {
@@ -39,7 +41,7 @@ pub fn filters(s: &mut Seeded, most: usize) -> Draft {
 }
 
 /// Rows without children: some letters, some words.
-fn add_leaves(s: &mut Seeded, draft: &mut Draft) {
+pub fn add_leaves(s: &mut Seeded, draft: &mut Draft) {
     for _ in 0..s.between(1, 4) {
         let low = s.pick(b"aaabbcx") as u16;
         draft.add_row(2, low, low + s.below(3) as u16);
@@ -58,7 +60,7 @@ fn add_leaves(s: &mut Seeded, draft: &mut Draft) {
 }
 
 /// Rows with children, most of them earlier rows, so that most derive something.
-fn add_joins(s: &mut Seeded, draft: &mut Draft) {
+pub fn add_joins(s: &mut Seeded, draft: &mut Draft) {
     let first = draft.rows.len();
     let count = first + s.between(2, 10);
     for row in first..count {

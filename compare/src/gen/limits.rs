@@ -1,5 +1,6 @@
 //! Valid sheets with tables, terms and lengths at their limits.
 
+use super::new_bytes;
 use super::small::{add_assertion, add_bytes, add_rows, part, run, stretch};
 use crate::draft::Draft;
 use crate::second::sheet::{Sheet, LENGTH_LIMIT, TABLES};
@@ -8,13 +9,14 @@ use crate::seed::Seeded;
 pub fn limits(s: &mut Seeded) -> Draft {
     let (shortest, longest) =
         s.pick(&[(60, 60), (0, 60), (59, 60), (30, 60), (0, 0), (0, 0), (0, 1), (2, 3), (0, 30)]);
-    let mut draft = Draft { shortest, longest, ..Draft::default() };
-    // The longest sheet has every table full.
+    let mut draft = Draft { shortest, longest, new_bytes: new_bytes(s), ..Draft::default() };
+    // The longest sheet has every table full, but perhaps for a few bytes of text.
     let full = s.once_in(6);
     let letters = if full { 8 } else { s.pick(&[1, 8]) };
     add_letters(s, &mut draft, letters);
     if full || s.once_in(2) {
-        add_full_text(s, &mut draft);
+        let most = TABLES[1].most - s.pick(&[0, 0, 0, 1, 2, 3, 4]);
+        add_long_text(s, &mut draft, most);
     } else {
         add_bytes(s, &mut draft, 6);
     }
@@ -42,8 +44,8 @@ fn add_letters(s: &mut Seeded, draft: &mut Draft, count: usize) {
     }
 }
 
-fn add_full_text(s: &mut Seeded, draft: &mut Draft) {
-    while draft.text.len() < TABLES[1].most {
+fn add_long_text(s: &mut Seeded, draft: &mut Draft, count: usize) {
+    while draft.text.len() < count {
         let byte = if s.once_in(3) { s.byte() } else { s.pick(&draft.letters).0 };
         draft.text.push(byte);
     }

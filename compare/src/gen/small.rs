@@ -1,6 +1,7 @@
 //! Small valid sheets, and the records that other sorts use too.
 
 use super::contained::add_containment;
+use super::new_bytes;
 use crate::draft::{Draft, Record};
 use crate::seed::Seeded;
 
@@ -13,6 +14,7 @@ pub fn small(s: &mut Seeded, scale: usize) -> Draft {
     let mut draft = Draft {
         shortest: s.between(0, longest) as u16,
         longest: longest as u16,
+        new_bytes: new_bytes(s),
         ..Draft::default()
     };
     for _ in 0..s.between(1, scale + 1) {

@@ -1,6 +1,8 @@
 //! Records of an accepted sheet made wrong in one field, by the first value that is wrong there.
 
-use crate::second::sheet::{read_u16, ASSERTIONS, LETTERS, PARTS, ROWS, TABLES, TEXT, TRAILER};
+use super::trailer_start;
+use crate::second::edition::FIELDS;
+use crate::second::sheet::{read_u16, ASSERTIONS, LETTERS, PARTS, ROWS, TABLES, TEXT};
 
 /// A field of one byte or of two, from its place in a record or in a sheet, and what it is to hold.
 #[derive(Clone, Copy, PartialEq, Eq, Debug)]
@@ -25,9 +27,20 @@ impl Field {
     }
 }
 
+/// Where the trailer has the shortest length; the longest is the field behind it.
+pub fn lengths_field(sheet: &[u8]) -> usize {
+    trailer_start(sheet).expect("a sheet with its trailer")
+}
+
 /// Where the trailer has a table's offset; its count is the field behind it.
 pub fn offset_field(sheet: &[u8], table: usize) -> usize {
-    sheet.len() - TRAILER + 4 + 4 * table
+    lengths_field(sheet) + 4 + 4 * table
+}
+
+/// The least value that is wrong for the new byte, and the greatest; a sheet of the second edition.
+pub fn wrong_new_byte(sheet: &[u8], number: usize) -> [Field; 2] {
+    let least = if number == 0 { 2 } else { 1 };
+    [least, 255].map(|value| Field::Byte(lengths_field(sheet) + FIELDS + number, value))
 }
 
 /// The fields that can be wrong beside the others, each with such a value; text has none.

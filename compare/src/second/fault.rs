@@ -5,7 +5,8 @@ use std::fmt::{self, Display, Formatter};
 #[derive(Clone, Copy, PartialEq, Eq, PartialOrd, Ord, Debug)]
 pub struct Fault {
     pub number: u32,
-    /// From 0 letters to 4 assertions; 0 where the number is about no table.
+    /// From 0 letters to 4 assertions, and 5 for the trailer's new bytes; 0 where the number is
+    /// about none of these.
     pub table: u32,
     /// 0 where the number is about no record.
     pub record: u32,

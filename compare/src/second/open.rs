@@ -1,6 +1,7 @@
 //! The judgement of one trial: is a prefix open at a length?
 
 use super::derive::{can_read, derives, Place};
+use super::edition::CutRule;
 use super::sheet::{Assertion, Claim, Part, Run, Sheet};
 
 /// Whether each assertion, taken alone, is possible for words of n bytes with this prefix.
@@ -21,7 +22,7 @@ fn possible(sheet: &Sheet, assertion: &Assertion, prefix: &[u8], n: usize) -> bo
     can_hold(sheet, assertion.claim, &terms) != assertion.denied
 }
 
-/// The places of a term, or nothing if a cut reaches past n.
+/// The places of a term, or nothing if a cut reaches past n and may not.
 fn term(sheet: &Sheet, run: Run, prefix: &[u8], n: usize) -> Option<Vec<Place>> {
     let mut places = Vec::new();
     let v = |position: usize| prefix.get(position).map_or(Place::Unknown, |&b| Place::Known(b));
@@ -31,10 +32,12 @@ fn term(sheet: &Sheet, run: Run, prefix: &[u8], n: usize) -> Option<Vec<Place>> 
                 places.extend(sheet.stretch(stretch).iter().map(|&b| Place::Known(b)));
             }
             Part::Whole => places.extend((0..n).map(v)),
-            Part::Cut { position, bytes } if position + bytes <= n => {
-                places.extend((position..position + bytes).map(v));
+            Part::Cut { position, bytes } => {
+                if position + bytes > n && sheet.cut_rule == CutRule::Strict {
+                    return None;
+                }
+                places.extend((position..n.min(position + bytes)).map(v));
             }
-            Part::Cut { .. } => return None,
         }
     }
     Some(places)

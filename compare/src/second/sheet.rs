@@ -1,15 +1,15 @@
 //! The checker of a problem sheet: refusals 10 to 17 in the papers' order, 141 behind 14, then the
 //! sheet parsed.
 
+use super::edition::{cut_rule, CutRule, Edition, FIELDS, TOTAL_AND_MARK};
 use super::fault::Fault;
 
-/// Bytes of the trailer that ends every sheet.
-pub const TRAILER: usize = 32;
-/// The longest sheet: every table at its limit, and the trailer.
-pub const SHEET_LIMIT: usize = 3_376;
+/// The shortest sheet, of either edition: as long as the first one's trailer.
+pub const SHEET_LEAST: usize = Edition::First.trailer();
+/// The longest sheet, of either edition: every table at its limit, and the second one's trailer.
+pub const SHEET_LIMIT: usize = 3_380;
 /// The limit of the longest length, of a term and of a list's n.
 pub const LENGTH_LIMIT: usize = 60;
-pub const MARK: &[u8; 4] = b"PRM1";
 
 /// One of the five tables: the bytes of a record, and how many records there may be.
 pub struct Table {
@@ -32,6 +32,8 @@ pub const TEXT: usize = 1;
 pub const ROWS: usize = 2;
 pub const PARTS: usize = 3;
 pub const ASSERTIONS: usize = 4;
+/// The number that stands for the trailer's new bytes, which are no table.
+pub const NEW_BYTES: usize = 5;
 
 /// Bytes of the text table.
 #[derive(Clone, Copy, PartialEq, Eq, Debug)]
@@ -90,6 +92,7 @@ pub struct Sheet {
     pub assertions: Vec<Assertion>,
     pub shortest: usize,
     pub longest: usize,
+    pub cut_rule: CutRule,
 }
 
 impl Sheet {
@@ -142,49 +145,49 @@ impl Assertion {
     }
 }
 
-/// The trailer's lengths, and where each table begins and how many records it has.
-struct Trailer {
+/// The trailer's lengths, where each table begins and how many records it has, and the new bytes.
+struct Trailer<'a> {
     shortest: usize,
     longest: usize,
     tables: [(usize, usize); 5],
+    new_bytes: &'a [u8],
 }
 
-impl Trailer {
+impl Trailer<'_> {
     /// Refusals 10 to 15.
-    fn check(bytes: &[u8]) -> Result<Trailer, Fault> {
-        if bytes.len() < TRAILER {
+    fn check(bytes: &[u8]) -> Result<Trailer<'_>, Fault> {
+        if bytes.len() < SHEET_LEAST {
             return Err(Fault::alone(10));
         }
         if bytes.len() > SHEET_LIMIT {
             return Err(Fault::alone(11));
         }
-        let end = bytes.len() - TRAILER;
-        let trailer = Trailer::read(&bytes[end..]);
-        if &bytes[bytes.len() - 4..] != MARK {
-            return Err(Fault::alone(12));
-        }
-        if read_u32(bytes, bytes.len() - 8) as usize != bytes.len() {
-            return Err(Fault::alone(13));
-        }
+        let edition = Edition::of(bytes).ok_or(Fault::alone(12))?;
+        let total = read_u32(bytes, bytes.len() - TOTAL_AND_MARK) as usize;
+        // A sheet too short for its own trailer is refused whatever the total that it stores.
+        let start = edition.trailer_start(bytes).filter(|_| total == bytes.len());
+        let start = start.ok_or(Fault::alone(13))?;
+        let trailer = Trailer::read(&bytes[start..]);
         if let Some(table) = trailer.first_miscounted() {
             return Err(Fault::at(14, table, 0));
         }
         if trailer.shortest > trailer.longest || trailer.longest > LENGTH_LIMIT {
             return Err(Fault::alone(141));
         }
-        if !trailer.end_to_end(end) {
+        if !trailer.end_to_end(start) {
             return Err(Fault::alone(15));
         }
         Ok(trailer)
     }
 
-    fn read(bytes: &[u8]) -> Trailer {
+    fn read(bytes: &[u8]) -> Trailer<'_> {
         Trailer {
             shortest: read_u16(bytes, 0),
             longest: read_u16(bytes, 2),
             tables: std::array::from_fn(|i| {
                 (read_u16(bytes, 4 + 4 * i), read_u16(bytes, 6 + 4 * i))
             }),
+            new_bytes: &bytes[FIELDS..bytes.len() - TOTAL_AND_MARK],
         }
     }
 
@@ -205,10 +208,12 @@ impl Trailer {
         at == end
     }
 
-    /// Every record parsed, or the first that breaks its rule: the tables are read in order.
+    /// Everything parsed, or the first that breaks its rule: the new bytes, then every record, the
+    /// tables in order.
     fn sheet(&self, bytes: &[u8]) -> Result<Sheet, Fault> {
         let [_, text, rows, parts, _] = self.tables.map(|(_, count)| count);
         Ok(Sheet {
+            cut_rule: cut_rule(self.new_bytes).ok_or(Fault::at(16, NEW_BYTES, 0))?,
             letters: union(self.records(bytes, LETTERS, range)?),
             text: self.records(bytes, TEXT, |record| Some(record[0]))?,
             rows: self.records(bytes, ROWS, |record| row(record, text, rows))?,

@@ -81,7 +81,16 @@ fn check(bytes: &[u8], work: &[u64], out: &[u8]) -> Result<Sheet, Fault> {
 
 /// The walk, or nothing if its full count is above the budget.
 pub fn walk(sheet: &Sheet, budget: u64) -> Option<Walked> {
-    let mut walk = Walk { sheet, budget, trials: 0, prefix: Vec::new() };
+    walk_by(open, sheet, budget)
+}
+
+/// The walk with a given judgement.
+pub fn walk_by(
+    open: impl Fn(&Sheet, &[u8], usize) -> bool,
+    sheet: &Sheet,
+    budget: u64,
+) -> Option<Walked> {
+    let mut walk = Walk { open, sheet, budget, trials: 0, prefix: Vec::new() };
     for n in sheet.shortest..=sheet.longest {
         match walk.visit(n) {
             Visit::Found => return Some(Walked { trials: walk.trials, found: Some(walk.prefix) }),
@@ -92,7 +101,8 @@ pub fn walk(sheet: &Sheet, budget: u64) -> Option<Walked> {
     Some(Walked { trials: walk.trials, found: None })
 }
 
-struct Walk<'a> {
+struct Walk<'a, F> {
+    open: F,
     sheet: &'a Sheet,
     budget: u64,
     trials: u64,
@@ -105,14 +115,14 @@ enum Visit {
     Spent,
 }
 
-impl Walk<'_> {
+impl<F: Fn(&Sheet, &[u8], usize) -> bool> Walk<'_, F> {
     /// Judges the prefix in hand, then walks its extensions if it is open.
     fn visit(&mut self, n: usize) -> Visit {
         if self.trials == self.budget {
             return Visit::Spent;
         }
         self.trials += 1;
-        if !open(self.sheet, &self.prefix, n) {
+        if !(self.open)(self.sheet, &self.prefix, n) {
             return Visit::Done;
         }
         if self.prefix.len() == n {
