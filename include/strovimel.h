@@ -26,15 +26,19 @@ extern "C" {
 /* Sizes. */
 #define STROVIMEL_WORK_WORDS 7564 /* words of workspace that solver and gate need */
 #define STROVIMEL_LONGEST 60      /* the most bytes of a word, of a term, of a list's n */
-#define STROVIMEL_SHEET_MIN 32    /* the fewest bytes of a sheet: its trailer */
-#define STROVIMEL_SHEET_MAX 3376  /* the most bytes of a sheet */
+#define STROVIMEL_SHEET_MIN 32    /* the fewest bytes of a sheet: the trailer of a PRM1 sheet */
+#define STROVIMEL_SHEET_MAX 3380  /* the most bytes of a sheet: full tables and the trailer of a PRM2 sheet */
 
-/* A sheet's tables, as a refusal names them. The records of each are counted from 0. */
+/*
+ * A sheet's tables, as a refusal names them, and the number that stands for a PRM2 trailer's new bytes (cut rule,
+ * comparison rule, two zeros). The records of each table are counted from 0.
+ */
 #define STROVIMEL_TABLE_LETTERS 0u
 #define STROVIMEL_TABLE_TEXT 1u
 #define STROVIMEL_TABLE_ROWS 2u
 #define STROVIMEL_TABLE_PARTS 3u
 #define STROVIMEL_TABLE_ASSERTIONS 4u
+#define STROVIMEL_TABLE_NEW_BYTES 5u
 
 /* Answers of the solver, the maker and the gate. */
 #define STROVIMEL_FOUND 0u   /* solver: a key was found */
@@ -49,13 +53,13 @@ extern "C" {
  * faults of a sheet, which is to be mended where it was written. A refused call changes nothing.
  */
 #define STROVIMEL_SHEET_SHORT 10u    /* the sheet is too short to be one: under 32 bytes */
-#define STROVIMEL_SHEET_LONG 11u     /* the sheet is too long: over 3,376 bytes */
-#define STROVIMEL_SHEET_MARK 12u     /* not a sheet, or a damaged one: it does not end with PRM1 */
-#define STROVIMEL_SHEET_TOTAL 13u    /* bytes were lost or added: the length it tells is not the length it has */
+#define STROVIMEL_SHEET_LONG 11u     /* the sheet is too long: over 3,380 bytes */
+#define STROVIMEL_SHEET_MARK 12u     /* not a sheet, or a damaged one: it ends with neither PRM1 nor PRM2 */
+#define STROVIMEL_SHEET_TOTAL 13u    /* bytes were lost or added: not the length that it tells, or PRM2 and under 36 */
 #define STROVIMEL_SHEET_COUNTS 14u   /* a table has too many records, or there are no letters: see table */
 #define STROVIMEL_SHEET_LENGTHS 141u /* the shortest length is above the longest, or the longest above 60 */
 #define STROVIMEL_SHEET_OFFSETS 15u  /* the tables do not stand end to end, or do not end at the trailer */
-#define STROVIMEL_SHEET_RECORD 16u   /* a record breaks its rule, say by a bad kind or reference: see table and record */
+#define STROVIMEL_SHEET_RECORD 16u   /* a bad new byte, or a record of, say, a bad kind: see table and record */
 #define STROVIMEL_SHEET_TERM 17u     /* an assertion has a term that can grow longer than 60 bytes: see record */
 #define STROVIMEL_WORKSPACE 18u      /* the workspace is too small: under 7,564 words */
 #define STROVIMEL_OUTPUT 19u         /* the output is too small: shorter than the sheet's longest length */
@@ -68,7 +72,8 @@ extern "C" {
 /*
  * table and record say where a sheet is faulty, and are 0 in every other answer:
  * - 14: the first table with a bad count, and record 0;
- * - 16: the first table with a bad record, and the first such record in it;
+ * - 16: for a bad new byte of a PRM2 trailer table 5, and record 0; else the first table with a bad record, and the
+ *   first such record in it;
  * - 17: table 4, and the first assertion with too long a term.
  */
 typedef struct {
