@@ -16,7 +16,7 @@ use Rattle.paper.specs.Rows.{Derives}
 use Rattle.paper.specs.Sheet.{sheetOf, textOf, grammarOf}
 use Rattle.paper.specs.Cuts.{cutList}
 use Rattle.paper.specs.Gate.{wellFormed}
-use Rattle.paper.specs.Answers.{Said, Found, None, Spent, Refused, Report, reportOf, whether, under, walkOf, solverSays, MakerReport, words, zeroed, written, workAfter, outAfter, solverRefusal, makerRefusal, makerSays, spaceAfter, gateSays, gateLeaves}
+use Rattle.paper.specs.Answers.{Said, Found, None, Spent, Refused, Report, reportOf, whether, under, walkOf, solverSays, WriteReport, words, zeroed, written, workAfter, outAfter, solverRefusal, makerRefusal, makerSays, spaceAfter, gateSays, gateLeaves}
 use Rattle.paper.specs.Promises.{Solves, Makes, Gates}
 use Rattle.paper.proofs.Budget.{under-above}
 use Rattle.paper.proofs.Meaning.{Means, answer-means}
@@ -59,15 +59,15 @@ demand-1-solver-names sheet budget work out r work′ out′ p = rw (p .said) (g
     go false m = solver-names sheet (length work) (length out)
 
 -- the maker: 10 to 17, then 20 to 22
-pub demand-1-maker : (sheet : List ℕ) (row n : ℕ) (space : List ℕ) (r : MakerReport) (space′ : List ℕ) → Makes (λ q. q) sheet row n space r space′
+pub demand-1-maker : (sheet : List ℕ) (row n : ℕ) (space : List ℕ) (r : WriteReport) (space′ : List ℕ) → Makes (λ q. q) sheet row n space r space′
     → 0 < makerRefusal sheet row n (length space) .number
     → (r .number ≡ makerRefusal sheet row n (length space) .number) × (r .length ≡ 0) × (space′ ≡ space)
 unfolding makerSays spaceAfter
 demand-1-maker sheet row n space r space′ p h =
     let e = ne-eqb (makerRefusal sheet row n (length space) .number) 0 (λ z. omega arith) in
-    (ap (λ (m : MakerReport). m .number) (p .said), ap (λ (m : MakerReport). m .length) (p .said) ∙ rw e, p .wrote ∙ rw e)
+    (ap (λ (m : WriteReport). m .number) (p .said), ap (λ (m : WriteReport). m .length) (p .said) ∙ rw e, p .wrote ∙ rw e)
 
-pub demand-1-maker-names : (sheet : List ℕ) (row n : ℕ) (space : List ℕ) (r : MakerReport) (space′ : List ℕ) → Makes (λ q. q) sheet row n space r space′
+pub demand-1-maker-names : (sheet : List ℕ) (row n : ℕ) (space : List ℕ) (r : WriteReport) (space′ : List ℕ) → Makes (λ q. q) sheet row n space r space′
     → Names sheet (record { number = r .number; table = r .table; «record» = r .«record» })
 unfolding makerSays
 demand-1-maker-names sheet row n space r space′ p = rw (p .said) (maker-names sheet row n (length space))
@@ -110,13 +110,13 @@ pub options-shorter : (list : List ℕ) (text : ℕ) → wellFormed list text �
 options-shorter list text w = steps-shorter list text (formed list text w)
 
 -- lent space for it, the maker of a row of an accepted sheet writes the list, and it is at the start of the space
-module _ (sheet : List ℕ) (row n : ℕ) (space : List ℕ) (r : MakerReport) (space′ : List ℕ) (p : Makes (λ q. q) sheet row n space r space′) (m : Makeable sheet row n space) where
+module _ (sheet : List ℕ) (row n : ℕ) (space : List ℕ) (r : WriteReport) (space′ : List ℕ) (p : Makes (λ q. q) sheet row n space r space′) (m : Makeable sheet row n space) where
   none-refused : makerRefusal sheet row n (length space) ≡ noFault
   none-refused = not-refused sheet row n (length space) (m .accepted) (m .in-sheet) (m .short) (m .room)
 
   list-size : r .length ≡ length (cutList (grammarOf sheet) row n)
   unfolding makerSays
-  list-size = ap (λ (q : MakerReport). q .length) (p .said) ∙ rw none-refused
+  list-size = ap (λ (q : WriteReport). q .length) (p .said) ∙ rw none-refused
 
   list-bytes : space′ ≡ written (cutList (grammarOf sheet) row n) space
   unfolding spaceAfter
@@ -128,7 +128,7 @@ module _ (sheet : List ℕ) (row n : ℕ) (space : List ℕ) (r : MakerReport) (
   pub list-written : ListWritten sheet row n space r space′
   unfolding makerSays
   list-written = record {
-    number = ap (λ (q : MakerReport). q .number) (p .said) ∙ ap (λ (f : Fault). f .number) none-refused;
+    number = ap (λ (q : WriteReport). q .number) (p .said) ∙ ap (λ (f : Fault). f .number) none-refused;
     size = list-size;
     bytes = list-bytes;
     shorter = rw list-there (options-shorter _ (length (textOf sheet)) (made-formed sheet row n (m .accepted) (m .in-sheet) (m .short)));
@@ -153,7 +153,7 @@ list-judged sheet row n space word work number work′ m f h p =
 -- for the list, and whatever the gate's promise allows, lent as many bytes of that space as the maker reported, the sheet's text, the word and
 -- 7,564 words: the list is written, each step in it leads only to shorter lengths, and the gate says yes exactly when the row derives the word,
 -- and else no.
-pub demand-3 : (sheet : List ℕ) (row n : ℕ) (space : List ℕ) (r : MakerReport) (space′ word work : List ℕ) (number : ℕ) (work′ : List ℕ)
+pub demand-3 : (sheet : List ℕ) (row n : ℕ) (space : List ℕ) (r : WriteReport) (space′ word work : List ℕ) (number : ℕ) (work′ : List ℕ)
     → Makes (λ q. q) sheet row n space r space′
     → Gates (take (r .length) space′) (textOf sheet) word work number work′
     → Makeable sheet row n space → length word ≡ n → words ≤ length work

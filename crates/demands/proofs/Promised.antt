@@ -7,7 +7,7 @@ use Rattle.paper.specs.Promises.{says, Solves, Makes, Gates}
 use Rattle.solver.specs.Reported as solver
 use Rattle.solver.proofs.Coincide.{reports}
 use Rattle.solver.proofs.solve.Reads as solve
-use Rattle.maker.specs.Reported as maker
+use Rattle.sheet.specs.Told.{reported}
 use Rattle.maker.proofs.Coincide.{makes}
 use Rattle.maker.proofs.make.Reads as make
 use Rattle.gate.specs.Number.{numberOf}
@@ -20,8 +20,8 @@ pub solve-promised : (κs : _) (a : _) (r : _) (e : _) → solve.Learnt κs a r 
 solve-promised κs a r e p = record { said = ap solver.reported (p .said) ∙ reports (says (now (a .0)) (a .1 .0) (now (a .1 .1 .0)) (now (a .1 .1 .1 .0))); cleared = p .cleared; wrote = p .wrote }
 
 pub make-promised : (κs : _) (a : _) (r : _) (e : _) → make.Learnt κs a r e
-    → Makes (λ q. q) (now (a .0)) (a .1 .0) (a .1 .1 .0) (now (a .1 .1 .1 .0)) (maker.reported r) (now (e .1 .1 .1 .0))
-make-promised κs a r e p = record { said = ap maker.reported (p .said) ∙ makes _ _ _ _; wrote = p .wrote }
+    → Makes (λ q. q) (now (a .0)) (a .1 .0) (a .1 .1 .0) (now (a .1 .1 .1 .0)) (reported r) (now (e .1 .1 .1 .0))
+make-promised κs a r e p = record { said = ap reported (p .said) ∙ makes _ _ _ _; wrote = p .wrote }
 
 pub gate-promised : (κs : _) (a : _) (r : _) (e : _) → gate.Learnt κs a r e
     → Gates (now (a .0)) (now (a .1 .0)) (now (a .1 .1 .0)) (now (a .1 .1 .1 .0)) (numberOf r) (now (e .1 .1 .1 .0))

@@ -10,7 +10,7 @@ use Rattle.paper.specs.Rows.{Derives}
 use Rattle.paper.specs.Sheet.{grammarOf}
 use Rattle.paper.specs.Cuts.{cutList, Split}
 use Rattle.paper.specs.Gate.{nOf, rowsOf, optionCount, headAt, optionAt, optOf}
-use Rattle.paper.specs.Answers.{MakerReport, words, zeroed, written}
+use Rattle.paper.specs.Answers.{WriteReport, words, zeroed, written}
 
 -- none of 10 to 17, 20, 21 and 22: an accepted sheet, a row of it, a length of at most 60, and space for the list
 pub record Makeable (sheet : List ℕ) (row n : ℕ) (space : List ℕ) : Type 0 where
@@ -28,7 +28,7 @@ StepsShorter list =
 
 -- "list written": 0 and the list's length, the list at the start of the space, and the space after it kept; "each step leads only to shorter
 -- lengths", of the bytes written
-pub record ListWritten (sheet : List ℕ) (row n : ℕ) (space : List ℕ) (r : MakerReport) (space′ : List ℕ) : Type 0 where
+pub record ListWritten (sheet : List ℕ) (row n : ℕ) (space : List ℕ) (r : WriteReport) (space′ : List ℕ) : Type 0 where
   pub number : r .number ≡ 0
   pub size : r .length ≡ length (cutList (grammarOf sheet) row n)
   pub bytes : space′ ≡ written (cutList (grammarOf sheet) row n) space

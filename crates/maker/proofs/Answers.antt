@@ -24,13 +24,12 @@ use Rattle.numbers.proofs.Stores.{put-more, put-same, put-written}
 use Rattle.sheet_trailer.specs.declared.Table.{Table}
 use Rattle.sheet_trailer.specs.Tables.{TableOf}
 use Rattle.sheet.specs.declared.Fault.{Fault}
-use Rattle.sheet.specs.Told.{told}
+use Rattle.sheet.specs.declared.Made.the-variants.{Written, Refused}
+use Rattle.sheet.specs.Told.{told, made}
 use Rattle.sheet.proofs.Good.{good}
 use Rattle.maker_options.specs.Prepared.{Offsets, JobOf}
 use Rattle.maker_groups.specs.Parts.{mark}
-use Rattle.maker.specs.declared.Made.the-variants.{Written, Refused}
 use Rattle.maker.specs.Trailer.{offsetBytes, endingBytes, trailerBytes}
-use Rattle.maker.specs.Reported.{made}
 
 -- ---- the trailer, and the whole list
 

@@ -1,2 +1,1 @@
 pub mod Trailer
-pub mod Reported

@@ -5,19 +5,14 @@ ghost use Rattle.paper.specs.Tests.{gather};
 ghost use Rattle.paper.specs.Refusals.{Accepted};
 ghost use Rattle.paper.specs.Promises.{Makes};
 ghost use Rattle.numbers.specs.Put.{Put};
+ghost use Rattle.sheet.specs.Told.{made};
 ghost use Rattle.maker_options.specs.Prepared.{JobOf};
 ghost use Rattle.maker.specs.Trailer.{offsetBytes, endingBytes, trailerBytes};
-ghost use Rattle.maker.specs.Reported.{made};
 use maker_groups::bytes;
 use maker_options::Job;
 use maker_options::ready;
 use maker_options::sizes;
-
-// 0 with the list's length, or a fault.
-pub enum Made {
-    Written(usize),
-    Refused(sheet::Fault),
-}
+use sheet::Made;
 
 // The offsets of the groups 0 to n at o.
 fn put_offsets(list: &mut [u8], o: usize, offsets: &[usize], n: usize) -> usize

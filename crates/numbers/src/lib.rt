@@ -71,3 +71,16 @@ pub fn put_u32(list: &mut [u8], o: usize, x: usize) -> usize
     let p = put_u16(list, o, x % 65536);
     put_u16(list, p, x / 65536)
 }
+
+// The bytes x at o.
+pub fn put_bytes(list: &mut [u8], o: usize, x: &[u8]) -> usize
+    requires { ⌜ o + length (now x) ≤ length (now list) ⌝ }
+    ensures { λ r. ⌜ Put (now (x .entry)) o (now (list .entry)) (now (list .exit)) r ⌝ }
+{
+    let mut i: usize = 0;
+    while i < x.len() {
+        list[o + i] = x[i];
+        i += 1;
+    }
+    o + i
+}

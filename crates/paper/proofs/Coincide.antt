@@ -3,16 +3,21 @@
 use Prim.Native.Nat.{ℕ}
 use mathlib.Core.Path.{_≡_, sym, ap, _∙_}
 use mathlib.Core.List.{List}
-use Rattle.paper.specs.Answers.{Said, MakerReport, gateLeaves}
-use Rattle.paper.specs.Promises.{Solves, Makes, Gates}
+use Rattle.paper.specs.Answers.{Said, WriteReport, gateLeaves}
+use Rattle.paper.specs.Editions.{Move}
+use Rattle.paper.specs.Promises.{Solves, Makes, Moves, Gates}
 
 pub solves-coincide : {A : Type 0} (tell : Said → A) (sheet : List ℕ) (budget : ℕ) (work out : List ℕ) (r q : A) (work′ work″ out′ out″ : List ℕ)
     → Solves tell sheet budget work out r work′ out′ → Solves tell sheet budget work out q work″ out″ → (r ≡ q) × (work′ ≡ work″) × (out′ ≡ out″)
 solves-coincide tell sheet budget work out r q work′ work″ out′ out″ a b = (a .said ∙ sym (b .said), a .cleared ∙ sym (b .cleared), a .wrote ∙ sym (b .wrote))
 
-pub makes-coincide : {A : Type 0} (tell : MakerReport → A) (sheet : List ℕ) (row n : ℕ) (space : List ℕ) (r q : A) (space′ space″ : List ℕ)
+pub makes-coincide : {A : Type 0} (tell : WriteReport → A) (sheet : List ℕ) (row n : ℕ) (space : List ℕ) (r q : A) (space′ space″ : List ℕ)
     → Makes tell sheet row n space r space′ → Makes tell sheet row n space q space″ → (r ≡ q) × (space′ ≡ space″)
 makes-coincide tell sheet row n space r q space′ space″ a b = (a .said ∙ sym (b .said), a .wrote ∙ sym (b .wrote))
+
+pub moves-coincide : {A : Type 0} (tell : WriteReport → A) (m : Move) (sheet space : List ℕ) (r q : A) (space′ space″ : List ℕ)
+    → Moves tell m sheet space r space′ → Moves tell m sheet space q space″ → (r ≡ q) × (space′ ≡ space″)
+moves-coincide tell m sheet space r q space′ space″ a b = (a .said ∙ sym (b .said), a .wrote ∙ sym (b .wrote))
 
 -- the gate's number; where an answer is told by its number, the answer
 pub gates-coincide : (list text word work : List ℕ) (k m : ℕ) (work′ work″ : List ℕ)

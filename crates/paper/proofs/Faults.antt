@@ -11,12 +11,14 @@ use lib.Dec.{leb, ltb, eqb}
 use lib.ListN.{length}
 use borrow.Author.Tests.{eqb-false}
 use Rattle.paper.specs.Tests.{firstFrom, firstBad}
-use Rattle.paper.specs.Trailer.{limit, longest, sheetMost, markOk, totalOk, countOk, lengthsOk, offsetsOk, rulesOk, countOf, recordAt}
+use Rattle.paper.specs.Trailer.{limit, longest, markOk, totalOk, countOk, lengthsOk, offsetsOk, rulesOk, rulesOf, countOf, recordAt}
 use Rattle.paper.specs.Sheet.{grammarOf}
 use Rattle.paper.specs.Records.{recordOk, tableOk, badRecord, badTable, assertFits, badTerm}
-use Rattle.paper.specs.Refusals.{Fault, plain, noFault, unless, orElse, countFault, ruleFault, recordFault, termFault, contentRefusal, tableRefusal, refusal, latest}
+use Rattle.paper.specs.Refusals.{Fault, plain, noFault, unless, orElse, countFault, ruleFault, recordFault, termFault, contentRefusal, tableRefusal, Takes, refusal, latest}
 use Rattle.paper.specs.Names.{FirstFails, NewByte, FirstRecord, Names}
 use Rattle.paper.specs.Cuts.{cutList}
+use Rattle.paper.specs.Rules.{noRule}
+use Rattle.paper.specs.Editions.{Move, from, to, inEdition, only, moveRefusal}
 use Rattle.paper.specs.Answers.{words, solverRefusal, makerRefusal}
 use Rattle.paper.proofs.Tests.{true-or-false}
 
@@ -119,12 +121,12 @@ module _ (s : List ℕ) where
   unless-names f test later a b = unless-then f test later a (λ q. b)
 
   -- THE FAULT of a sheet names what its number says
-  pub refusal-names : (last : ℕ) → Names s (refusal last s)
+  pub refusal-names : (takes : Takes) → Names s (refusal takes s)
   unfolding refusal tableRefusal contentRefusal
-  refusal-names last =
+  refusal-names takes =
       unless-names (plain 10) (leb 32 (length s)) _ (λ q. named-by 10 refl)
-      (unless-names (plain 11) (leb (length s) (sheetMost last)) _ (λ q. named-by 11 refl)
-      (unless-names (plain 12) (markOk last s) _ (λ q. named-by 12 refl)
+      (unless-names (plain 11) (leb (length s) (takes .bytes)) _ (λ q. named-by 11 refl)
+      (unless-names (plain 12) (markOk (takes .first) (takes .last) s) _ (λ q. named-by 12 refl)
       (unless-names (plain 13) (totalOk s) _ (λ q. named-by 13 refl)
       (unless-names (countFault s) (eqb (firstBad (countOk s) 5) 5) _ count-names
       (unless-names (plain 141) (lengthsOk s) _ (λ q. named-by 141 refl)
@@ -150,6 +152,13 @@ module _ (s : List ℕ) where
       (unless-names (plain 20) (ltb row (countOf s 2)) _ (λ q. named-by 20 refl)
       (unless-names (plain 21) (leb n limit) _ (λ q. named-by 21 refl)
       (unless-names (plain 22) (leb (length (cutList (grammarOf s) row n)) space) noFault (λ q. named-by 22 refl) (named-by 0 refl))))
+
+  pub move-names : (m : Move) (space : ℕ) → Names s (moveRefusal m s space)
+  unfolding moveRefusal
+  move-names m space =
+      or-else-names (refusal (only (from m)) s) _ (refusal-names (only (from m)))
+      (unless-names (plain 40) (noRule (rulesOf s)) _ (λ q. named-by 40 refl)
+      (unless-names (plain 41) (leb (length (inEdition (to m) s)) space) noFault (λ q. named-by 41 refl) (named-by 0 refl)))
 
   -- where there is no fault, no table and no record is named
   pub none-names : (f : Fault) → Names s f → f .number ≡ 0 → f ≡ noFault

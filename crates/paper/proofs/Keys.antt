@@ -7,6 +7,8 @@ use Rattle.paper.specs.Records.{letterOk, rowFields, rowOk, partFields, 
 use Rattle.paper.specs.Refusals.{contentRefusal, tableRefusal, refusal}
 use Rattle.paper.specs.Rows.{stretch, rowOf, row}
 use Rattle.paper.specs.Terms.{partOf, placesOf, piece, term, fullLength, cutInside}
+use Rattle.paper.specs.Rules.{noRule}
+use Rattle.paper.specs.Editions.{inEdition, moveRefusal}
 use Rattle.paper.specs.Sheet.{claimOf, letter, partsOf, inside, spanAt, rowAt, partAt, assertionAt, textOf, grammarOf, tableOf, sheetOf}
 use Rattle.paper.specs.Open.{termOn}
 use Rattle.paper.specs.Decide as decide
@@ -28,5 +30,5 @@ unfolding keys record6 record12 editionBytes sheetBytes allOfV vInRow rowsB shee
     stretch rowOf row partOf placesOf piece term fullLength cutInside claimOf letter partsOf inside spanAt rowAt partAt assertionAt textOf grammarOf tableOf sheetOf termOn
     rounds closure nullRow nullRule nullable reachRow reachRule carried reaches fits someIn split ownRow level decide.upTo accepts
     allows pattern meet meetFrom canHold isUnknown canFail can possible opensOn opens run rising tree walk
-    splits ownOpts options optionBytes allBytes headBytes entry group groups listTrailer cutList trailerOf groupAt words walkOf under solverRefusal solverSays
-keys-right = (refl, (refl, (refl, (refl, (refl, (refl, (refl, (refl, (refl, (refl, (refl, ((refl, refl), (refl, (refl, (refl, (refl, (refl, (refl, (refl, (refl, (refl, (refl, (refl, (refl, (refl, (refl, (refl, (refl, (refl, (refl, (refl, (refl, (refl, (refl, tt))))))))))))))))))))))))))))))))))
+    splits ownOpts options optionBytes allBytes headBytes entry group groups listTrailer cutList trailerOf groupAt words walkOf under solverRefusal solverSays noRule inEdition moveRefusal
+keys-right = (refl, (refl, (refl, (refl, (refl, (refl, (refl, (refl, (refl, (refl, (refl, ((refl, refl), (refl, (refl, (refl, (refl, (refl, (refl, (refl, (refl, (refl, (refl, (refl, (refl, (refl, (refl, (refl, (refl, (refl, (refl, (refl, (refl, (refl, (refl, ((refl, refl), ((refl, refl), (refl, (refl, (refl, (refl, tt))))))))))))))))))))))))))))))))))))))))

@@ -90,6 +90,23 @@ solverSays s budget work out =
     let a = under budget (walkOf (sheetOf s)) in
     whether (eqb (r .number) 0) a (Refused r)
 
+-- ---- a call that writes bytes, or refuses
+
+-- what is reported: the number, the table and the record; the length of what is written
+pub record WriteReport : Type 0 where
+  pub number : ℕ
+  pub table : ℕ
+  pub «record» : ℕ
+  pub length : ℕ
+
+-- a fault and no length, or 0 and the length of the bytes
+abbrev pub writeReport : Fault → (bytes : List ℕ) → WriteReport
+writeReport f bytes = record { number = f .number; table = f .table; «record» = f .«record»; length = cond (eqb (f .number) 0) (length bytes) 0 }
+
+-- a refusal changes nothing, else the bytes are written at the start
+abbrev pub spaceWith : Fault → (bytes space : List ℕ) → List ℕ
+spaceWith f bytes space = cond (eqb (f .number) 0) (written bytes space) space
+
 -- ---- the maker
 
 -- 10 to 17, then 20 to 22: the row is not in the sheet, the length is above 60, the list is longer than the space
@@ -100,21 +117,12 @@ makerRefusal s row n space =
     (unless (plain 21) (leb n limit)
     (unless (plain 22) (leb (length (cutList (grammarOf s) row n)) space) noFault)))
 
--- what is reported: the number, the table and the record; the list's length
-pub record MakerReport : Type 0 where
-  pub number : ℕ
-  pub table : ℕ
-  pub «record» : ℕ
-  pub length : ℕ
-
-unfoldable pub makerSays : (s : List ℕ) (row n space : ℕ) → MakerReport
-makerSays s row n space =
-    let r = makerRefusal s row n space in
-    record { number = r .number; table = r .table; «record» = r .«record»; length = cond (eqb (r .number) 0) (length (cutList (grammarOf s) row n)) 0 }
+unfoldable pub makerSays : (s : List ℕ) (row n space : ℕ) → WriteReport
+makerSays s row n space = writeReport (makerRefusal s row n space) (cutList (grammarOf s) row n)
 
 -- the space after the call: the list at its start where it is written, else as it was
 unfoldable pub spaceAfter : (s : List ℕ) (row n : ℕ) (space : List ℕ) → List ℕ
-spaceAfter s row n space = cond (eqb (makerRefusal s row n (length space) .number) 0) (written (cutList (grammarOf s) row n) space) space
+spaceAfter s row n space = spaceWith (makerRefusal s row n (length space)) (cutList (grammarOf s) row n) space
 
 -- ---- the gate
 

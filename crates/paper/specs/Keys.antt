@@ -9,7 +9,9 @@ use Rattle.paper.specs.Tests.{tableFrom}
 use Rattle.paper.specs.Sheet.{grammarOf}
 use Rattle.paper.specs.Cuts.{cutList}
 use Rattle.paper.specs.Gate.{groupAt}
+use Rattle.paper.specs.Refusals.{plain, noFault}
 use Rattle.paper.specs.Answers.{Said, Found, None, Spent, solverRefusal, solverSays}
+use Rattle.paper.specs.Editions.{Move, ToSecond, ToFirst, to, inEdition, moveRefusal}
 
 -- ---- the questions
 
@@ -80,6 +82,8 @@ pub data Key : Type 0 where
   Lists : (sheet : List ℕ) (row n : ℕ) (groups : List ℕ) (total : ℕ) → Key  -- the list has its groups there, and so many bytes
   Sizes : (sheet : List ℕ) (bytes : ℕ) → Key  -- the sheet has so many bytes
   Refuses : (sheet : List ℕ) (work out number table item : ℕ) → Key  -- lent so many words and bytes, the solver refuses so, naming table and record; 0 where it does not
+  Moves : (m : Move) (sheet moved : List ℕ) → Key  -- the sheet is moved, and becomes this one
+  Stays : (m : Move) (sheet : List ℕ) (space number : ℕ) → Key  -- lent so many bytes, the move is refused so
 
 abbrev pub Right : Key → Type 0
 Right (Solves s budget a) = solverSays s budget 7564 60 ≡ a
@@ -87,6 +91,8 @@ Right (Lists s row n groups total) =
     (tableFrom 0 (n + 1) (groupAt (cutList (grammarOf s) row n)) ≡ groups) × (length (cutList (grammarOf s) row n) ≡ total)
 Right (Sizes s bytes) = length s ≡ bytes
 Right (Refuses s work out number table item) = solverRefusal s work out ≡ record { number = number; table = table; «record» = item }
+Right (Moves m s t) = (inEdition (to m) s ≡ t) × (moveRefusal m s (length t) ≡ noFault)
+Right (Stays m s space number) = moveRefusal m s space ≡ plain number
 
 -- the budget of the checking program
 abbrev pub million : ℕ
@@ -128,4 +134,10 @@ keys =
     Refuses (sheetCut (0 ∷ 0 ∷ 0 ∷ 1 ∷ []) 96) 7564 60 16 5 0 ∷  -- before a bad record
     Refuses (sheetCut (0 ∷ 0 ∷ 0 ∷ 0 ∷ []) 96) 7564 60 16 0 0 ∷  -- which is told where the new bytes are good
     Refuses (replicate 28 0 ++ (80 ∷ 82 ∷ 77 ∷ 50 ∷ [])) 7564 60 13 0 0 ∷  -- a sheet of the second edition under 36 bytes is 13
+    Moves ToSecond sheetK8 (sheetCut (0 ∷ 0 ∷ 0 ∷ 0 ∷ []) 97) ∷  -- K8 in the second edition
+    Moves ToFirst (sheetCut (0 ∷ 0 ∷ 0 ∷ 0 ∷ []) 97) sheetK8 ∷  -- and back
+    Stays ToSecond (sheetCut (0 ∷ 0 ∷ 0 ∷ 0 ∷ []) 97) 100 12 ∷  -- it already has the wanted mark
+    Stays ToFirst sheetK8 100 12 ∷  -- so has this
+    Stays ToFirst (sheetCut (1 ∷ 0 ∷ 0 ∷ 0 ∷ []) 97) 0 40 ∷  -- a nonzero rule is 40, before the room
+    Stays ToSecond sheetK8 62 41 ∷  -- 62 bytes for the 63 of K8 in the second edition
     []

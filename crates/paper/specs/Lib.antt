@@ -18,6 +18,7 @@ pub mod Order
 pub mod Cuts
 pub mod Gate
 pub mod Answers
+pub mod Editions
 pub mod SheetBytes
 pub mod Promises
 pub mod Keys

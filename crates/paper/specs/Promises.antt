@@ -7,7 +7,8 @@ use mathlib.Core.List.{List}
 use lib.ListN.{length}
 use Rattle.paper.specs.Refusals.{Fault, latest, refusal}
 use Rattle.paper.specs.Gate.{wellFormed}
-use Rattle.paper.specs.Answers.{Said, outAfter, workAfter, solverSays, MakerReport, makerSays, spaceAfter, gateSays, gateLeaves}
+use Rattle.paper.specs.Editions.{Move, moveSays, moveLeaves}
+use Rattle.paper.specs.Answers.{Said, outAfter, workAfter, solverSays, WriteReport, makerSays, spaceAfter, gateSays, gateLeaves}
 
 -- the check of a sheet: its first fault, or none
 abbrev pub Checks : {A : Type 0} → (tell : Fault → A) (sheet : List ℕ) → A → Type 0
@@ -24,9 +25,14 @@ pub record Solves {A : Type 0} (tell : Said → A) (sheet : List ℕ) (budget : 
   pub wrote : out′ ≡ outAfter (says sheet budget work out) out
 
 -- the maker: its answer, by whatever type tells what is reported, and the space after the call
-pub record Makes {A : Type 0} (tell : MakerReport → A) (sheet : List ℕ) (row n : ℕ) (space : List ℕ) (r : A) (space′ : List ℕ) : Type 0 where
+pub record Makes {A : Type 0} (tell : WriteReport → A) (sheet : List ℕ) (row n : ℕ) (space : List ℕ) (r : A) (space′ : List ℕ) : Type 0 where
   pub said : r ≡ tell (makerSays sheet row n (length space))
   pub wrote : space′ ≡ spaceAfter sheet row n space
+
+-- a move between editions: its answer, and the space after the call
+pub record Moves {A : Type 0} (tell : WriteReport → A) (m : Move) (sheet space : List ℕ) (r : A) (space′ : List ℕ) : Type 0 where
+  pub said : r ≡ tell (moveSays m sheet (length space))
+  pub wrote : space′ ≡ moveLeaves m sheet space
 
 -- the test of a list: whether it is well formed with a text of so many bytes
 abbrev pub Admits : (list : List ℕ) (text : ℕ) (r : Bool) → Type 0

@@ -62,18 +62,24 @@ tableRefusal s =
     (unless (plain 15) (offsetsOk s)
     (contentRefusal s)))
 
--- 10 to 17, by a call that reads the editions 1 to `last`
-unfoldable pub refusal : (last : ℕ) → List ℕ → Fault
-refusal last s =
+-- what a call takes: the editions that it reads, and how many bytes at most
+pub record Takes : Type 0 where
+  pub first : ℕ
+  pub last : ℕ
+  pub bytes : ℕ
+
+-- 10 to 17, by a call that takes so much
+unfoldable pub refusal : Takes → List ℕ → Fault
+refusal takes s =
     unless (plain 10) (leb 32 (length s))
-    (unless (plain 11) (leb (length s) (sheetMost last))
-    (unless (plain 12) (markOk last s)
+    (unless (plain 11) (leb (length s) (takes .bytes))
+    (unless (plain 12) (markOk (takes .first) (takes .last) s)
     (unless (plain 13) (totalOk s)
     (tableRefusal s))))
 
--- the last edition that the calls read
-abbrev pub latest : ℕ
-latest = 2
+-- what the everyday calls take: "12 allows both marks", "11 now means over 3,380 bytes"
+abbrev pub latest : Takes
+latest = record { first = 1; last = 2; bytes = sheetMost 2 }
 
 -- "a sheet is accepted when none of 10 to 17 holds"
 abbrev pub Accepted : List ℕ → Type 0

@@ -1,6 +1,6 @@
 -- The rules that a sheet carries.
 use Prim.Native.Nat.{ℕ}
-use mathlib.Core.Bool.{Bool}
+use mathlib.Core.Bool.{Bool, _&&_}
 use lib.Dec.{eqb}
 
 pub record Rules : Type 0 where
@@ -10,3 +10,7 @@ pub record Rules : Type 0 where
 -- "cut rule 1 gives the bytes up to the end of v"
 abbrev pub shortens : Rules → Bool
 shortens r = eqb (r .cut) 1
+
+-- every rule is 0, as it is where the edition has none
+unfoldable pub noRule : Rules → Bool
+noRule r = eqb (r .cut) 0 && eqb (r .comparison) 0

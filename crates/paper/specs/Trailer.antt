@@ -70,9 +70,9 @@ unfoldable pub startOf : List ℕ → ℕ → ℕ
 startOf s zero = 0
 startOf s (suc t) = startOf s t + size t * countOf s t
 
--- 12: the last four bytes are `PRM` and the digit of an edition that the call reads, 1 to `last`
-unfoldable pub markOk : (last : ℕ) → List ℕ → Bool
-markOk last s = leb 1 (edition s) && (leb (edition s) last && markAt s (length s - 4) 80 82 77 (48 + edition s))
+-- 12: the last four bytes are `PRM` and the digit of an edition that the call reads, `first` to `last`
+unfoldable pub markOk : (first last : ℕ) → List ℕ → Bool
+markOk first last s = leb first (edition s) && (leb (edition s) last && markAt s (length s - 4) 80 82 77 (48 + edition s))
 
 -- 13: there is room for the edition's trailer, and the stored total is the length lent
 unfoldable pub totalOk : List ℕ → Bool

@@ -10,10 +10,10 @@ use borrow.Author.Tests.{eqb-true, leb-true}
 use native.Mathlib.Omega.{arith}
 use Rattle.paper.specs.Bytes.{u8At}
 use Rattle.paper.specs.Tests.{firstBad}
-use Rattle.paper.specs.Trailer.{edition, trailerSize, sheetMost, size, least, most, limit, shortest, longest, offsetOf, countOf, recordAt, countOk, lengthsOk, offsetsOk, rulesOk, markOk, totalOk}
+use Rattle.paper.specs.Trailer.{edition, trailerSize, size, least, most, limit, shortest, longest, offsetOf, countOf, recordAt, countOk, lengthsOk, offsetsOk, rulesOk, markOk, totalOk}
 use Rattle.paper.specs.Sheet.{secondRun, assertionAt}
 use Rattle.paper.specs.Records.{letterOk, recordOk, badTable, termFits, assertFits, badTerm}
-use Rattle.paper.specs.Refusals.{Fault, plain, countFault, ruleFault, recordFault, termFault, unless, contentRefusal, tableRefusal, refusal}
+use Rattle.paper.specs.Refusals.{Fault, plain, countFault, ruleFault, recordFault, termFault, unless, contentRefusal, tableRefusal, Takes, refusal}
 use Rattle.paper.proofs.Tests.{and-left, and-right}
 use Rattle.sheet_trailer.specs.Placed.{Trailed, Laid}
 use Rattle.sheet_trailer.proofs.Search.{all-good}
@@ -27,28 +27,39 @@ pass : (f : Fault) (test : Bool) (later : Fault) → 0 < f .number → unless f 
 pass f true later p e = (refl, e)
 pass f false later p e = absurd (omega arith)
 
-record Ends (last : ℕ) (s : List ℕ) : Type 0 where
-  high : length s ≤ sheetMost last
-  trailed : Trailed s
-  rest : tableRefusal s .number ≡ 0
+pub record Ends (takes : Takes) (s : List ℕ) : Type 0 where
+  pub low : 32 ≤ length s
+  pub high : length s ≤ takes .bytes
+  pub mark : markOk (takes .first) (takes .last) s ≡ true
+  pub total : totalOk s ≡ true
+  pub trailed : Trailed s
+  pub rest : tableRefusal s .number ≡ 0
 
-record Tables (s : List ℕ) : Type 0 where
-  counts : firstBad (countOk s) 5 ≡ 5
-  lengths : lengthsOk s ≡ true
-  offsets : offsetsOk s ≡ true
-  records : badTable s ≡ 5
-  terms : badTerm s ≡ countOf s 4
+pub record Tables (s : List ℕ) : Type 0 where
+  pub counts : firstBad (countOk s) 5 ≡ 5
+  pub lengths : lengthsOk s ≡ true
+  pub offsets : offsetsOk s ≡ true
+  pub rules : rulesOk s ≡ true
+  pub records : badTable s ≡ 5
+  pub terms : badTerm s ≡ countOf s 4
 
-heads : (last : ℕ) (s : List ℕ) → refusal last s .number ≡ 0 → Ends last s
+pub heads : (takes : Takes) (s : List ℕ) → refusal takes s .number ≡ 0 → Ends takes s
 unfolding refusal totalOk
-heads last s e =
+heads takes s e =
     let a = pass (plain 10) (leb 32 (length s)) _ (omega arith) e in
-    let b = pass (plain 11) (leb (length s) (sheetMost last)) _ (omega arith) (a .1) in
-    let c = pass (plain 12) (markOk last s) _ (omega arith) (b .1) in
+    let b = pass (plain 11) (leb (length s) (takes .bytes)) _ (omega arith) (a .1) in
+    let c = pass (plain 12) (markOk (takes .first) (takes .last) s) _ (omega arith) (b .1) in
     let d = pass (plain 13) (totalOk s) _ (omega arith) (c .1) in
-    record { high = leb-true _ _ (b .0); trailed = leb-true _ _ (and-left (leb (trailerSize (edition s)) (length s)) _ (d .0)); rest = d .1 }
+    record {
+      low = leb-true _ _ (a .0);
+      high = leb-true _ _ (b .0);
+      mark = c .0;
+      total = d .0;
+      trailed = leb-true _ _ (and-left (leb (trailerSize (edition s)) (length s)) _ (d .0));
+      rest = d .1;
+    }
 
-tails : (s : List ℕ) → tableRefusal s .number ≡ 0 → Tables s
+pub tails : (s : List ℕ) → tableRefusal s .number ≡ 0 → Tables s
 unfolding tableRefusal contentRefusal
 tails s e =
     let a = pass (countFault s) (eqb (firstBad (countOk s) 5) 5) _ (omega arith) e in
@@ -61,6 +72,7 @@ tails s e =
       counts = eqb-true _ _ (a .0);
       lengths = b .0;
       offsets = c .0;
+      rules = n .0;
       records = eqb-true _ _ (d .0);
       terms = eqb-true _ _ (f .0);
     }
@@ -98,9 +110,9 @@ terms-at : (s : List ℕ) (o : ℕ) → assertFits s o ≡ true → (termFits s 
 unfolding assertFits
 terms-at s o e = (and-left _ _ e, and-right (termFits s (assertionAt s o .term)) _ e)
 
-pub good : (last : ℕ) (s : List ℕ) → last < 10 → refusal last s .number ≡ 0 → Good s
-good last s n e =
-    let h = heads last s e in
+pub good : (takes : Takes) (s : List ℕ) → takes .bytes < 65536 → refusal takes s .number ≡ 0 → Good s
+good takes s n e =
+    let h = heads takes s e in
     let t = tails s (h .rest) in
     let placed = tables.placed s (t .offsets) in
     record {

@@ -4,3 +4,4 @@ pub mod Records
 pub mod Rows
 pub mod Soundness
 pub mod Coincide
+pub mod Telling

@@ -10,7 +10,7 @@ ghost use Rattle.paper.specs.Promises.{Checks};
 ghost use Rattle.paper.specs.Sheet.{textOf, sheetOf, letter};
 ghost use Rattle.sheet_trailer.specs.Placed.{Trailed, Laid};
 ghost use Rattle.sheet_trailer.specs.Tables.{TableOf};
-ghost use Rattle.sheet.specs.Told.{told};
+ghost use Rattle.sheet.specs.Told.{told, taken};
 ghost use Rattle.sheet.specs.Good.{Good};
 ghost use Rattle.sheet.specs.Readers.{RowRead, PartRead, AssertionRead};
 use sheet_contents::Assertion;
@@ -23,6 +23,12 @@ pub struct Fault {
     pub number: u32,
     pub table: u32,
     pub record: u32,
+}
+
+// What a call that writes answers: 0 with the length written, or a fault.
+pub enum Made {
+    Written(usize),
+    Refused(Fault),
 }
 
 // A fault that names no record.
@@ -90,18 +96,25 @@ fn check_tables(s: &[u8]) -> Fault
     check_content(s)
 }
 
-// The first fault of any bytes, for a call that reads the editions 1 to `last`.
-pub fn first_fault(s: &[u8], last: usize) -> Fault
-    requires { ⌜ last < 10 ⌝ }
-    ensures { λ r. ⌜ r ≡ told (refusal last (now (s .entry))) ⌝ }
+// What a call takes: the editions from `first` to `last`, and at most so many bytes.
+pub struct Takes {
+    pub first: usize,
+    pub last: usize,
+    pub bytes: usize,
+}
+
+// The first fault of any bytes, for a call that takes so much.
+pub fn first_fault(s: &[u8], takes: Takes) -> Fault
+    requires { ⌜ takes .last < 10 ⌝ }
+    ensures { λ r. ⌜ r ≡ told (refusal (taken takes) (now (s .entry))) ⌝ }
 {
     if s.len() < 32 {
         return by_number(10);
     }
-    if s.len() > 3372 + 4 * last {
+    if s.len() > takes.bytes {
         return by_number(11);
     }
-    if !sheet_trailer::mark_ok(s, last) {
+    if !sheet_trailer::mark_ok(s, takes.first, takes.last) {
         return by_number(12);
     }
     if !sheet_trailer::total_ok(s) {
@@ -110,14 +123,21 @@ pub fn first_fault(s: &[u8], last: usize) -> Fault
     check_tables(s)
 }
 
-// The last edition that the calls read.
-pub const LATEST: usize = 2;
+// The longest sheet that the calls take, in bytes.
+pub const MOST: usize = 3380;
 
 // The first fault of any bytes.
 pub fn check(s: &[u8]) -> Fault
     ensures { λ r. ⌜ Checks told (now (s .entry)) r ⌝ }
 {
-    first_fault(s, LATEST)
+    first_fault(
+        s,
+        Takes {
+            first: 1,
+            last: 2,
+            bytes: MOST,
+        },
+    )
 }
 
 // Row i of an accepted sheet.

@@ -56,9 +56,13 @@ module _ (s : List ℕ) (e : offsetsOk s ≡ true) where
   unfolding offsetsOk
   ends = eqb-true _ _ (and-right (eqb (firstBad (offsetOk s) 5) 5) _ e)
 
-  pub placed : Placed s
-  unfolding base
-  placed t h =
+  -- every table lies before the trailer
+  pub before-trailer : (t : ℕ) → t < 5 → offsetOf s t + size t * countOf s t ≤ base s
+  before-trailer t h =
       let k : 5 - suc t + suc t ≡ 5 = omega arith in
       let m : startOf s (suc t) ≤ startOf s 5 = rw k at (start-mono s (5 - suc t) (suc t)) in
       omega (arith, start-suc s t, begins t h, ends)
+
+  pub placed : Placed s
+  unfolding base
+  placed t h = omega (arith, before-trailer t h)

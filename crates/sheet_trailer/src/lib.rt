@@ -28,7 +28,7 @@ fn edition(s: &[u8]) -> usize
 }
 
 // Where the trailer begins.
-fn base(s: &[u8]) -> usize
+pub fn base(s: &[u8]) -> usize
     requires { ⌜ Trailed (now s) ⌝ }
     ensures { λ r. ⌜ r ≡ «base» (now (s .entry)) ⌝ }
 {
@@ -99,6 +99,17 @@ pub fn shortens(s: &[u8]) -> bool
     new_byte(s, 0) == 1
 }
 
+// Every rule is 0.
+pub fn no_rule(s: &[u8]) -> bool
+    requires { ⌜ Trailed (now s) ⌝ }
+    ensures { λ r. ⌜ r ≡ paper.noRule (rulesOf (now (s .entry))) ⌝ }
+{
+    if new_byte(s, 0) != 0 {
+        return false;
+    }
+    new_byte(s, 1) == 0
+}
+
 pub fn rules_ok(s: &[u8]) -> bool
     requires { ⌜ Trailed (now s) ⌝ }
     ensures { λ r. ⌜ r ≡ rulesOk (now (s .entry)) ⌝ }
@@ -115,13 +126,13 @@ pub fn rules_ok(s: &[u8]) -> bool
     new_byte(s, 3) == 0
 }
 
-// The mark is that of an edition from 1 to `last`.
-pub fn mark_ok(s: &[u8], last: usize) -> bool
+// The mark is that of an edition from `first` to `last`.
+pub fn mark_ok(s: &[u8], first: usize, last: usize) -> bool
     requires { ⌜ (32 ≤ length (now s)) × (last < 10) ⌝ }
-    ensures { λ r. ⌜ r ≡ markOk last (now (s .entry)) ⌝ }
+    ensures { λ r. ⌜ r ≡ markOk first last (now (s .entry)) ⌝ }
 {
     let e = edition(s);
-    if e < 1 {
+    if e < first {
         return false;
     }
     if e > last {

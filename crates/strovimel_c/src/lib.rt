@@ -3,7 +3,7 @@ ghost use mathlib.Core.Path.{_≡_};
 ghost use Prim.Native.Nat.{_<_};
 ghost use Rattle.paper.specs.Promises.{Solves, Makes, Gates};
 ghost use Rattle.solver.specs.Reported.{reported};
-ghost use Rattle.maker.specs.Reported.{reported as making};
+ghost use Rattle.sheet.specs.Told.{reported as writing};
 ghost use Rattle.strovimel_c.specs.Structs.{solvedOf, solvedReport, madeOf, madeReport};
 
 // The solver's answer: its number, the table and the record at fault, the word's length, the trials.
@@ -61,18 +61,18 @@ fn tell_solved(a: solver::Solved) -> Solved
     }
 }
 
-fn tell_made(a: maker::Made) -> Made
-    requires { ⌜ making a .length < 4294967296 ⌝ }
-    ensures { λ r. ⌜ madeReport r ≡ making a ⌝ }
+fn tell_made(a: sheet::Made) -> Made
+    requires { ⌜ writing a .length < 4294967296 ⌝ }
+    ensures { λ r. ⌜ madeReport r ≡ writing a ⌝ }
 {
     match a {
-        maker::Made::Written(length) => Made {
+        sheet::Made::Written(length) => Made {
             number: 0,
             table: 0,
             record: 0,
             length: length as u32,
         },
-        maker::Made::Refused(f) => Made {
+        sheet::Made::Refused(f) => Made {
             number: f.number,
             table: f.table,
             record: f.record,

@@ -1,7 +1,7 @@
 use Prim.Native.Nat.{_<_}
 use mathlib.Core.Path.{sym, ap, subst, _∙_}
-use Rattle.paper.specs.Answers.{MakerReport}
-use Rattle.maker.specs.Reported.{reported}
+use Rattle.paper.specs.Answers.{WriteReport}
+use Rattle.sheet.specs.Told.{reported}
 use Rattle.maker.proofs.Coincide.{makes}
 use Rattle.strovimel_c.specs.Structs.{madeOf}
 use Rattle.strovimel_c.proofs.Fits.{list-fits}
@@ -10,7 +10,7 @@ use Rattle.strovimel_c.proofs.strovimel_make.Statement.{statement}
 use Rattle.strovimel_c.proofs.strovimel_make.Tie as tie
 
 tell-made-requires : tie.Need-tell-made-requires
-tell-made-requires c κs = subst (λ (r : MakerReport). r .length < 4294967296) (sym (ap reported (c .before .before .make .ensures .said) ∙ makes _ _ _ _)) (list-fits _ _ _ _)
+tell-made-requires c κs = subst (λ (r : WriteReport). r .length < 4294967296) (sym (ap reported (c .before .before .make .ensures .said) ∙ makes _ _ _ _)) (list-fits _ _ _ _)
 
 returns : tie.Need-returns
 returns c =
