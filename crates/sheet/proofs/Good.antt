@@ -23,7 +23,7 @@ use Rattle.sheet.specs.Good.{Good}
 
 -- ---- the tests that acceptance passes
 
-pass : (f : Fault) (test : Bool) (later : Fault) → 0 < f .number → unless f test later .number ≡ 0 → (test ≡ true) × (later .number ≡ 0)
+pub pass : (f : Fault) (test : Bool) (later : Fault) → 0 < f .number → unless f test later .number ≡ 0 → (test ≡ true) × (later .number ≡ 0)
 pass f true later p e = (refl, e)
 pass f false later p e = absurd (omega arith)
 
