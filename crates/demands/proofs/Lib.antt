@@ -3,3 +3,4 @@ pub mod Counting
 pub mod Handed
 pub mod Demands
 pub mod Promised
+pub mod Moving

@@ -1,2 +1,3 @@
 pub mod Solved
 pub mod Demanded
+pub mod Moved

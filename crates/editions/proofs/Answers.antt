@@ -11,7 +11,7 @@ use borrow.Author.Tests.{eq-eqb, ne-eqb, le-leb, lt-leb, eqb-true, eqb-false, le
 use Rattle.paper.specs.Rules.{noRule}
 use Rattle.paper.specs.Trailer.{edition, rulesOf}
 use Rattle.paper.specs.Refusals as paper
-use Rattle.paper.specs.Refusals.{plain, noFault, orElse, refusal, Accepted}
+use Rattle.paper.specs.Refusals.{plain, noFault, orElse, latest, refusal, Accepted}
 use Rattle.paper.specs.Answers.{written}
 use Rattle.paper.specs.Editions.{Move, ToSecond, ToFirst, from, to, inEdition, only, roomRefusal, moveRefusal, moveSays, moveLeaves}
 use Rattle.paper.specs.Promises.{Moves}
@@ -19,9 +19,11 @@ use Rattle.sheet.specs.declared.Fault.{Fault}
 use Rattle.sheet.specs.declared.Made.{Made}
 use Rattle.sheet.specs.declared.Made.the-variants.{Written, Refused}
 use Rattle.sheet.specs.Told.{told, made}
-use Rattle.sheet.proofs.Good.{pass}
+use Rattle.sheet.proofs.Good.{pass, heads}
 use Rattle.editions.specs.Puts.{Puts}
-use Rattle.editions.proofs.Same.{only-accepted, accepted-only}
+use Rattle.editions.specs.Movable.{Movable}
+use Rattle.editions.proofs.Moved.{moved-length}
+use Rattle.editions.proofs.Same.{only-accepted, accepted-only, base-most}
 
 -- no fault is told of a sheet with none
 pub none-told : {f : Fault} (x : paper.Fault) → f ≡ told x → f .number ≡ 0 → x .number ≡ 0
@@ -59,13 +61,6 @@ module _ (m : Move) (s : List ℕ) (space : ℕ) where
   unfolding moveRefusal
   room-left a r = rw (eq-eqb (refusal (only (from m)) s .number) 0 a, r)
 
--- where none is given, the sheet may be moved, and there is room
-pub record Moving (m : Move) (s : List ℕ) (space : ℕ) : Type 0 where
-  pub accepted : Accepted s
-  pub given : edition s ≡ from m
-  pub no-rule : noRule (rulesOf s) ≡ true
-  pub room : length (inEdition (to m) s) ≤ space
-
 or-else-none : (f later : paper.Fault) → orElse f later .number ≡ 0 → (f .number ≡ 0) × (later .number ≡ 0)
 or-else-none f later e = go (eqb (f .number) 0) refl e
   where
@@ -73,17 +68,23 @@ or-else-none f later e = go (eqb (f .number) 0) refl e
     go true t e = (eqb-true _ _ t, e)
     go false t e = absurd (eqb-false _ _ t e)
 
-pub moving : (m : Move) (s : List ℕ) (space : ℕ) → moveRefusal m s space .number ≡ 0 → Moving m s space
+-- none is given exactly where the sheet is moved
+pub movable : (m : Move) (s : List ℕ) (space : ℕ) → moveRefusal m s space .number ≡ 0 → Movable m s space
 unfolding moveRefusal
-moving m s space e =
+movable m s space e =
     let a = or-else-none (refusal (only (from m)) s) _ e in
     let b = pass (plain 40) (noRule (rulesOf s)) _ (omega arith) (a .1) in
     let c = pass (plain 41) (leb (length (inEdition (to m) s)) space) noFault (omega arith) (b .1) in
     let d = accepted-only (from m) (from-known m .0) (from-known m .1) s (a .0) in
     record { accepted = d .0; given = d .1; no-rule = b .0; room = leb-true _ _ (c .0) }
 
-pub moving-none : (m : Move) (s : List ℕ) (space : ℕ) → Moving m s space → moveRefusal m s space ≡ noFault
-moving-none m s space p =
+-- the sheet moved is as long as its tables and the trailer, so it is short
+pub moved-most : (m : Move) (s : List ℕ) {space : ℕ} → Movable m s space → length (inEdition (to m) s) ≤ 3380
+moved-most m s p =
+    omega (arith, moved-length s (heads latest s (p .accepted) .trailed) (to m) (to-known m .0) (to-known m .1), base-most s (p .accepted) (p .no-rule), to-known m .1)
+
+pub movable-none : (m : Move) (s : List ℕ) (space : ℕ) → Movable m s space → moveRefusal m s space ≡ noFault
+movable-none m s space p =
     room-left m s space (subst (λ (e : ℕ). refusal (only e) s .number ≡ 0) (p .given) (only-accepted s (p .accepted))) (p .no-rule) ∙ rw (le-leb _ _ (p .room))
 
 -- ---- what is said, and what is left

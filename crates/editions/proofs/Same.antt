@@ -12,7 +12,8 @@ use borrow.Author.Tests.{eq-eqb, le-leb, eqb-true, leb-true}
 use Rattle.paper.specs.Bytes.{u8At, u32At, markAt}
 use Rattle.paper.specs.Tests.{firstBad}
 use Rattle.paper.specs.Rules.{noRule}
-use Rattle.paper.specs.Trailer.{edition, trailerSize, base, countOf, newByte, rulesOf, startOf, countOk, lengthsOk, offsetsOk, rulesOk, markOk, totalOk}
+use Rattle.paper.specs.Trailer.{size, edition, trailerSize, base, offsetOf, countOf, newByte, rulesOf, startOf, longest, countOk, lengthsOk, offsetsOk, rulesOk, markOk, totalOk}
+use Rattle.paper.specs.Sheet.{grammarOf, sheetOf}
 use Rattle.paper.specs.Records.{badTable, badTerm}
 use Rattle.paper.specs.Refusals.{Takes, latest, contentRefusal, tableRefusal, refusal, Accepted}
 use Rattle.paper.specs.Editions.{inEdition, only}
@@ -21,7 +22,7 @@ use Rattle.sheet_trailer.proofs.Tables.{before-trailer, ends}
 use Rattle.sheet.specs.Good.{Good}
 use Rattle.sheet.proofs.Good.{good, Ends, Tables, heads, tails}
 use Rattle.editions.proofs.Moved.{moved-length, moved-front, moved-edition, moved-base, moved-new, moved-mark, moved-total}
-use Rattle.editions.proofs.Alike.{Alike, count-alike, counts-alike, lengths-alike, offsets-alike, rules-ok-alike, bad-table-alike, bad-term-alike}
+use Rattle.editions.proofs.Alike.{Alike, count-alike, counts-alike, lengths-alike, offsets-alike, rules-ok-alike, bad-table-alike, bad-term-alike, longest-alike, grammar-alike, sheet-alike}
 use Rattle.editions.proofs.Back.{Ended}
 
 -- the first edition has no rule
@@ -91,7 +92,7 @@ module _ (s : List ℕ) (a : Accepted s) (r : noRule (rulesOf s) ≡ true) where
       }
 
   -- full tables have 3,344 bytes
-  base-most : base s ≤ 3344
+  pub base-most : base s ≤ 3344
   unfolding startOf
   base-most =
       let c = good latest s (omega arith) a .counts in
@@ -113,11 +114,13 @@ module _ (s : List ℕ) (a : Accepted s) (r : noRule (rulesOf s) ≡ true) where
     tables : Tables s
     tables = tails s (heads latest s a .rest)
 
+    before : (k : ℕ) → k < 5 → offsetOf s k + size k * countOf s k ≤ base s
+    before = before-trailer s (tables .offsets)
+
     moved-tables : tableRefusal (inEdition e s) .number ≡ 0
     unfolding tableRefusal contentRefusal
     moved-tables =
         let t = tables in
-        let before = before-trailer s (t .offsets) in
         rw (
           eq-eqb _ _ (sym (counts-alike s _ alike) ∙ t .counts),
           sym (lengths-alike s _ alike) ∙ t .lengths,
@@ -134,3 +137,23 @@ module _ (s : List ℕ) (a : Accepted s) (r : noRule (rulesOf s) ≡ true) where
         let t = heads latest s a .trailed in
         let n = moved-length s t e lo hi in
         passes takes (inEdition e s) (omega arith) (omega (arith, base-most)) (moved-mark s t e lo hi (takes .first) (takes .last) p q) (moved-total s t e lo hi (good latest s (omega arith) a .small)) moved-tables
+
+    -- AND IT READS AS THE SHEET DOES
+    pub sheet-same : sheetOf s ≡ sheetOf (inEdition e s)
+    sheet-same = sheet-alike s _ alike before
+
+    pub grammar-same : grammarOf s ≡ grammarOf (inEdition e s)
+    grammar-same = grammar-alike s _ alike before
+
+    pub longest-same : longest s ≡ longest (inEdition e s)
+    longest-same = longest-alike s _ alike
+
+    pub count-same : countOf s 2 ≡ countOf (inEdition e s) 2
+    count-same = count-alike s _ alike 2 (omega arith)
+
+    -- no rule is set
+    pub moved-no-rule : noRule (rulesOf (inEdition e s)) ≡ true
+    unfolding noRule rulesOf
+    moved-no-rule =
+        let t = heads latest s a .trailed in
+        and-intro (eq-eqb _ _ (moved-new s t e lo hi 0 (omega arith))) (eq-eqb _ _ (moved-new s t e lo hi 1 (omega arith)))

@@ -1,11 +1,11 @@
--- A word's length and a list's length fit the structs' 32 bits.
+-- A word's length, a list's length and a sheet's length fit the structs' 32 bits.
 -- Assumes nothing.
 use Prim.Native.Nat.{ℕ, _≤_, _<_}
 use mathlib.Core.Path.{_≡_, refl}
 use mathlib.Core.Bool.{Bool, true, false, cond}
 use mathlib.Core.List.{List}
 use native.Mathlib.Omega.{arith}
-use borrow.Author.Tests.{ne-eqb}
+use borrow.Author.Tests.{ne-eqb, eqb-true}
 use lib.Dec.{eqb}
 use lib.ListN.{length}
 use Rattle.paper.specs.Trailer.{longest, countOf}
@@ -13,12 +13,14 @@ use Rattle.paper.specs.Refusals.{Fault, plain, latest, refusal}
 use Rattle.paper.specs.Sheet.{sheetOf, grammarOf}
 use Rattle.paper.specs.Cuts.{cutList}
 use Rattle.paper.specs.Answers.{Said, Found, None, Spent, Refused, reportOf, whether, under, walkOf, solverRefusal, solverSays, makerRefusal, makerSays}
+use Rattle.paper.specs.Editions.{Move, to, inEdition, moveRefusal, moveSays}
 use Rattle.paper.specs.Promises.{says}
 use Rattle.paper.proofs.Meaning.{Means, answer-means}
 use Rattle.paper.proofs.Obeys.{list-most}
 use Rattle.workspace.proofs.Spans.{lt-or-le}
 use Rattle.sheet.proofs.Good.{good}
 use Rattle.sheet.proofs.Soundness.{good-sound}
+use Rattle.editions.proofs.Answers.{movable, moved-most}
 use Rattle.solver.proofs.Solving.{says-sheet}
 use Rattle.maker.proofs.Answers.{refused-sheet, refused-row, refused-length}
 
@@ -69,3 +71,13 @@ module _ (s : List ℕ) (row n space : ℕ) where
       lt-or-le row (countOf s 2)
       (λ b. lt-or-le 60 n (λ l. refused-fits (plain 21) (refused-length s row n space a b l) (omega arith)) (λ l. written-fits a b l))
       (λ b. refused-fits (plain 20) (refused-row s row n space a b) (omega arith)))
+
+-- ---- the sheet moved
+
+pub sheet-fits : (m : Move) (s : List ℕ) (space : ℕ) → moveSays m s space .length < 4294967296
+unfolding moveSays
+sheet-fits m s space = go (eqb (moveRefusal m s space .number) 0) refl
+  where
+    go : (b : Bool) → eqb (moveRefusal m s space .number) 0 ≡ b → cond b (length (inEdition (to m) s)) 0 < 4294967296
+    go true e = omega (arith, moved-most m s (movable m s space (eqb-true _ _ e)))
+    go false e = omega arith

@@ -1,7 +1,8 @@
-// The calls of the solver, the maker and the gate as C makes them: a slice is a pointer and a length, an answer a number or a struct by value.
+// The calls of the solver, the maker, the gate and the moves between editions as C makes them: a slice is a pointer and a length, an answer a number or a struct by value.
 ghost use mathlib.Core.Path.{_≡_};
 ghost use Prim.Native.Nat.{_<_};
-ghost use Rattle.paper.specs.Promises.{Solves, Makes, Gates};
+ghost use Rattle.paper.specs.Editions.{ToSecond, ToFirst};
+ghost use Rattle.paper.specs.Promises.{Solves, Makes, Moves, Gates};
 ghost use Rattle.solver.specs.Reported.{reported};
 ghost use Rattle.sheet.specs.Told.{reported as writing};
 ghost use Rattle.strovimel_c.specs.Structs.{solvedOf, solvedReport, madeOf, madeReport};
@@ -16,7 +17,7 @@ pub struct Solved {
     pub trials: u64,
 }
 
-// The maker's answer: its number, the table and the record at fault, the list's length.
+// The answer of a call that writes: its number, the table and the record at fault, the length written.
 #[repr(C)]
 pub struct Made {
     pub number: u32,
@@ -100,6 +101,22 @@ pub extern "C" fn strovimel_make(sheet: &[u8], row: u64, n: u64, list: &mut [u8]
     ensures { λ r. ⌜ Makes madeOf (now (sheet .entry)) row n (now (list .entry)) r (now (list .exit)) ⌝ }
 {
     tell_made(maker::make(sheet, row, n, list))
+}
+
+// A `PRM1` sheet as a `PRM2` sheet, all four new bytes zero, at the start of the space lent.
+#[no_mangle]
+pub extern "C" fn strovimel_to_second(sheet: &[u8], out: &mut [u8]) -> Made
+    ensures { λ r. ⌜ Moves madeOf ToSecond (now (sheet .entry)) (now (out .entry)) r (now (out .exit)) ⌝ }
+{
+    tell_made(editions::to_second(sheet, out))
+}
+
+// A `PRM2` sheet whose rules are zero as a `PRM1` sheet, at the start of the space lent.
+#[no_mangle]
+pub extern "C" fn strovimel_to_first(sheet: &[u8], out: &mut [u8]) -> Made
+    ensures { λ r. ⌜ Moves madeOf ToFirst (now (sheet .entry)) (now (out .entry)) r (now (out .exit)) ⌝ }
+{
+    tell_made(editions::to_first(sheet, out))
 }
 
 // Whether the list accepts the word, with the text: on any list, text, word and workspace.
