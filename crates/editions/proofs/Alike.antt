@@ -2,15 +2,15 @@
 -- Assumes nothing.
 use Prim.Native.Nat.{ℕ, zero, suc, _+_, _*_, _<_, _≤_}
 use mathlib.Core.Path.{_≡_, refl, sym, ap, _∙_}
-use mathlib.Core.Bool.{Bool, true, _&&_}
+use mathlib.Core.Bool.{Bool}
 use mathlib.Core.List.{List}
 use native.Mathlib.Omega.{arith}
-use lib.Dec.{leb, eqb}
+use lib.Dec.{leb}
 use lib.ListN.{length, take, drop, getD, length-drop}
 use lib.Seq.{ext-getD, length-take-le, getD-take, getD-drop}
 use Rattle.paper.specs.Bytes.{u8At, u16At}
 use Rattle.paper.specs.Tests.{firstFrom, firstBad, tableFrom}
-use Rattle.paper.specs.Trailer.{size, base, field, shortest, longest, offsetOf, countOf, newByte, rulesOf, recordAt, startOf, countOk, lengthsOk, rulesOk, offsetOk, offsetsOk}
+use Rattle.paper.specs.Trailer.{size, base, field, longest, offsetOf, countOf, newByte, rulesOf, recordAt, startOf, countOk, lengthsOk, rulesOk, offsetOk, offsetsOk}
 use Rattle.paper.specs.Sheet.{Run, secondRun, spanAt, rowAt, partAt, assertionAt, ofTable, tableOf, textOf, grammarOf, sheetOf}
 use Rattle.paper.specs.Records.{letterOk, rowOk, partOk, assertOk, recordOk, tableOk, partLen, termLen, termFits, assertFits, badTable, badTerm}
 use Rattle.paper.proofs.Sound.{SoundAssertion}

@@ -9,9 +9,9 @@ use lib.Dec.{leb, eqb}
 use lib.ListN.{length}
 use borrow.Author.Tests.{eq-eqb, ne-eqb, le-leb, lt-leb, eqb-true, eqb-false, leb-true}
 use Rattle.paper.specs.Rules.{noRule}
-use Rattle.paper.specs.Trailer.{edition, rulesOf}
+use Rattle.paper.specs.Trailer.{rulesOf}
 use Rattle.paper.specs.Refusals as paper
-use Rattle.paper.specs.Refusals.{plain, noFault, orElse, latest, refusal, Accepted}
+use Rattle.paper.specs.Refusals.{plain, noFault, orElse, latest, refusal}
 use Rattle.paper.specs.Answers.{written}
 use Rattle.paper.specs.Editions.{Move, ToSecond, ToFirst, from, to, inEdition, only, roomRefusal, moveRefusal, moveSays, moveLeaves}
 use Rattle.paper.specs.Promises.{Moves}

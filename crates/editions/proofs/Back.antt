@@ -1,18 +1,18 @@
 -- There and back gives the original bytes: a sheet with no rule is what it is in its own edition, and the edition between leaves no trace.
 -- Assumes nothing.
-use Prim.Native.Nat.{ℕ, zero, suc, _+_, _*_, _-_, _%_, _/_, _≤_, _<_}
+use Prim.Native.Nat.{ℕ, zero, suc, _+_, _*_, _-_, _≤_, _<_}
 use mathlib.Core.Path.{_≡_, refl, sym, ap, _∙_}
-use mathlib.Core.Bool.{true, _&&_}
+use mathlib.Core.Bool.{true}
 use mathlib.Core.List.{List, [], _∷_, _++_}
 use native.Mathlib.Omega.{arith}
 use native.Mathlib.Nat.{mod-eq-of-lt}
 use lib.Arith.{digits-div, digits-mod}
-use lib.Dec.{leb, eqb}
+use lib.Dec.{eqb}
 use lib.ListN.{length, take, drop, take-append-drop, drop-of-length-le}
 use lib.Seq.{drop-cons}
 use borrow.Author.Tests.{eqb-true}
 use Rattle.paper.specs.Bytes.{u8At, u16At, u32At, u16, u32, markAt, OfBytes}
-use Rattle.paper.specs.Trailer.{edition, trailerSize, base, newByte, markOk, totalOk}
+use Rattle.paper.specs.Trailer.{edition, trailerSize, base, newByte}
 use Rattle.paper.specs.Editions.{zeros, inEdition}
 use Rattle.paper.proofs.Tests.{and-left, and-right}
 use Rattle.sheet_trailer.specs.Placed.{Trailed}

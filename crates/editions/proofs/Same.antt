@@ -2,26 +2,23 @@
 -- Assumes nothing.
 use Prim.Native.Nat.{ℕ, zero, suc, _+_, _*_, _-_, _≤_, _<_}
 use mathlib.Core.Path.{_≡_, sym, ap, _∙_}
-use mathlib.Core.Bool.{true, _&&_}
+use mathlib.Core.Bool.{true}
 use mathlib.Core.List.{List}
 use native.Mathlib.Omega.{arith}
 use lib.Dec.{leb, eqb}
-use lib.ListN.{length, take, getD}
+use lib.ListN.{length, getD}
 use lib.Seq.{getD-take}
 use borrow.Author.Tests.{eq-eqb, le-leb, eqb-true, leb-true}
-use Rattle.paper.specs.Bytes.{u8At, u32At, markAt}
-use Rattle.paper.specs.Tests.{firstBad}
+use Rattle.paper.specs.Bytes.{markAt}
 use Rattle.paper.specs.Rules.{noRule}
-use Rattle.paper.specs.Trailer.{size, edition, trailerSize, base, offsetOf, countOf, newByte, rulesOf, startOf, longest, countOk, lengthsOk, offsetsOk, rulesOk, markOk, totalOk}
+use Rattle.paper.specs.Trailer.{size, edition, trailerSize, base, offsetOf, countOf, newByte, rulesOf, startOf, longest, rulesOk, markOk, totalOk}
 use Rattle.paper.specs.Sheet.{grammarOf, sheetOf}
-use Rattle.paper.specs.Records.{badTable, badTerm}
 use Rattle.paper.specs.Refusals.{Takes, latest, contentRefusal, tableRefusal, refusal, Accepted}
 use Rattle.paper.specs.Editions.{inEdition, only}
 use Rattle.paper.proofs.Tests.{and-intro, and-left, and-right}
 use Rattle.sheet_trailer.proofs.Tables.{before-trailer, ends}
-use Rattle.sheet.specs.Good.{Good}
-use Rattle.sheet.proofs.Good.{good, Ends, Tables, heads, tails}
-use Rattle.editions.proofs.Moved.{moved-length, moved-front, moved-edition, moved-base, moved-new, moved-mark, moved-total}
+use Rattle.sheet.proofs.Good.{good, Tables, heads, tails}
+use Rattle.editions.proofs.Moved.{moved-length, moved-front, moved-base, moved-new, moved-mark, moved-total}
 use Rattle.editions.proofs.Alike.{Alike, count-alike, counts-alike, lengths-alike, offsets-alike, rules-ok-alike, bad-table-alike, bad-term-alike, longest-alike, grammar-alike, sheet-alike}
 use Rattle.editions.proofs.Back.{Ended}
 
