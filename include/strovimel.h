@@ -1,5 +1,5 @@
 /*
- * The solver, the maker and the gate of Strovimel, as C calls.
+ * The solver, the maker, the gate and the moves between editions of Strovimel, as C calls.
  *
  * What every call promises is proved for all arguments: any bytes, any numbers, any lengths. What it owes in return:
  * - each pointer points to as many elements as the length behind it says; a workspace begins at a multiple of 8, as a
@@ -40,11 +40,11 @@ extern "C" {
 #define STROVIMEL_TABLE_ASSERTIONS 4u
 #define STROVIMEL_TABLE_NEW_BYTES 5u
 
-/* Answers of the solver, the maker and the gate. */
+/* Answers of the solver, the maker, the gate and the moves. */
 #define STROVIMEL_FOUND 0u   /* solver: a key was found */
 #define STROVIMEL_NONE 1u    /* solver: no key satisfies the sheet */
 #define STROVIMEL_SPENT 2u   /* solver: the budget did not suffice */
-#define STROVIMEL_WRITTEN 0u /* maker: the list is written */
+#define STROVIMEL_WRITTEN 0u /* maker: the list is written; moves: the sheet */
 #define STROVIMEL_YES 0u     /* gate: the list accepts the word */
 #define STROVIMEL_NO 1u      /* gate: it does not */
 
@@ -68,6 +68,8 @@ extern "C" {
 #define STROVIMEL_SPACE 22u          /* the list is longer than the space lent */
 #define STROVIMEL_LIST 30u           /* the cut list is not well formed: damaged, or lent with too little text */
 #define STROVIMEL_WORD 31u           /* the word has not the length that the list was made for */
+#define STROVIMEL_RULE 40u           /* the first edition has no such rule: the cut or the comparison rule is not 0 */
+#define STROVIMEL_ROOM 41u           /* there is no room: the moved sheet is longer than the output */
 
 /*
  * table and record say where a sheet is faulty, and are 0 in every other answer:
@@ -85,10 +87,10 @@ typedef struct {
 } strovimel_solved;
 
 typedef struct {
-    uint32_t number; /* 0, or 10 to 17, 141, 20, 21, 22 */
+    uint32_t number; /* 0, or 10 to 17, 141; maker: 20, 21, 22; moves: 40, 41 */
     uint32_t table;
     uint32_t record;
-    uint32_t length; /* of the list written, else 0 */
+    uint32_t length; /* of the list or the sheet written, else 0 */
 } strovimel_made;
 
 /*
@@ -115,6 +117,22 @@ strovimel_made strovimel_make(const uint8_t *sheet, size_t sheet_len, uint64_t r
  */
 uint32_t strovimel_gate(const uint8_t *list, size_t list_len, const uint8_t *text, size_t text_len,
                         const uint8_t *word, size_t word_len, uint64_t *work, size_t work_len);
+
+/*
+ * Moves a sheet to the second edition. Checks 10 to 17 in the order above, where 12 is also said of a PRM2 sheet, then
+ * 41: out is shorter than the sheet and four bytes. Else 0: the sheet with its four new bytes zero, marked PRM2, stands
+ * at the start of out, and later bytes of out are kept. An out of STROVIMEL_SHEET_MAX bytes has room for every sheet.
+ */
+strovimel_made strovimel_to_second(const uint8_t *sheet, size_t sheet_len, uint8_t *out, size_t out_len);
+
+/*
+ * Moves a sheet to the first edition. Checks 10 to 17 in the order above, where 12 is also said of a PRM1 sheet, then
+ * 40: its cut rule or its comparison rule is not 0; then 41: out is shorter than the sheet less four bytes. Else 0: the
+ * sheet without its new bytes, marked PRM1, stands at the start of out, and later bytes of out are kept.
+ *
+ * There and back gives the bytes of the original sheet, and strovimel_solve and strovimel_make answer both alike.
+ */
+strovimel_made strovimel_to_first(const uint8_t *sheet, size_t sheet_len, uint8_t *out, size_t out_len);
 
 #ifdef __cplusplus
 }
