@@ -28,7 +28,7 @@
 
 #include "strovimel.h"
 
-enum { TOUCH, SOLVE, MAKE, GATE };
+enum { TOUCH, SOLVE, MAKE, GATE, TO_SECOND, TO_FIRST };
 
 #define PAGE ((size_t)65536) /* no processor has larger ones */
 #define EDGE ((size_t)256)   /* so many bytes beside a buffer are held to be unchanged */
@@ -244,6 +244,15 @@ static void expect(size_t how_many_numbers, size_t how_many_buffers)
         fail("a message with other arguments than its call takes");
 }
 
+static void answer_made(strovimel_made made)
+{
+    answer[0] = made.number;
+    answer[1] = made.table;
+    answer[2] = made.record;
+    answer[3] = made.length;
+    answer_count = 4;
+}
+
 static void call(uint64_t which)
 {
     buffer *b = buffers;
@@ -267,22 +276,23 @@ static void call(uint64_t which)
         answer_count = 5;
         break;
     }
-    case MAKE: {
-        strovimel_made made;
+    case MAKE:
         expect(2, 2);
-        made = strovimel_make(b[0].start, b[0].length, numbers[0], numbers[1], b[1].start, b[1].length);
-        answer[0] = made.number;
-        answer[1] = made.table;
-        answer[2] = made.record;
-        answer[3] = made.length;
-        answer_count = 4;
+        answer_made(strovimel_make(b[0].start, b[0].length, numbers[0], numbers[1], b[1].start, b[1].length));
         break;
-    }
     case GATE:
         expect(0, 4);
         answer[0] = strovimel_gate(b[0].start, b[0].length, b[1].start, b[1].length, b[2].start, b[2].length,
                                    (uint64_t *)(void *)b[3].start, b[3].length / 8);
         answer_count = 1;
+        break;
+    case TO_SECOND:
+        expect(0, 2);
+        answer_made(strovimel_to_second(b[0].start, b[0].length, b[1].start, b[1].length));
+        break;
+    case TO_FIRST:
+        expect(0, 2);
+        answer_made(strovimel_to_first(b[0].start, b[0].length, b[1].start, b[1].length));
         break;
     default:
         fail("a message with no such call");

@@ -1,7 +1,8 @@
 /*
  * How many bytes of stack each call takes at most: each is made on a stack of its own, filled with a pattern, and the
- * pattern's end is looked for behind it. `stack SHEET..` puts each sheet to the solver, with a budget, and each of its
- * rows to the maker at several lengths, and a word to the gate for each list. Faulty sheets are passed over.
+ * pattern's end is looked for behind it. `stack SHEET..` puts each sheet to the solver, with a budget, moves it to the
+ * second edition and back, and puts each of its rows to the maker at several lengths, and a word to the gate for each
+ * list. Faulty sheets are passed over, and those of the second edition are not moved.
  */
 #define _DEFAULT_SOURCE
 #include <stdio.h>
@@ -21,9 +22,10 @@ static ucontext_t here, there;
 
 /* The arguments and the answers of the call in hand. */
 static uint8_t sheet[STROVIMEL_SHEET_MAX + 1], text[1024], list[LIST], word[STROVIMEL_LONGEST];
+static uint8_t first[STROVIMEL_SHEET_MAX], second[STROVIMEL_SHEET_MAX];
 static uint64_t work[STROVIMEL_WORK_WORDS];
 static size_t sheet_length, row, length;
-static strovimel_made made;
+static strovimel_made made, moved;
 static uint32_t answer;
 
 static void nothing(void)
@@ -38,11 +40,23 @@ static void solve(void)
 static void make(void)
 {
     made = strovimel_make(sheet, sheet_length, row, length, list, sizeof list);
+    answer = made.number;
 }
 
 static void gate(void)
 {
     answer = strovimel_gate(list, made.length, text, sizeof text, word, length, work, STROVIMEL_WORK_WORDS);
+}
+
+static void to_second(void)
+{
+    moved = strovimel_to_second(sheet, sheet_length, second, sizeof second);
+    answer = moved.number;
+}
+
+static void to_first(void)
+{
+    answer = strovimel_to_first(second, moved.length, first, sizeof first).number;
 }
 
 static size_t taken(void (*call)(void))
@@ -84,7 +98,7 @@ static void measure(size_t *most, void (*call)(void))
 
 int main(int count, char **paths)
 {
-    size_t none = taken(nothing), most[3] = {0, 0, 0};
+    size_t none = taken(nothing), most[5] = {0, 0, 0, 0, 0};
     int i;
 
     for (i = 1; i < count; i++) {
@@ -92,6 +106,9 @@ int main(int count, char **paths)
         measure(&most[0], solve);
         if (answer > STROVIMEL_SPENT)
             continue;
+        measure(&most[3], to_second);
+        if (moved.number == STROVIMEL_WRITTEN)
+            measure(&most[4], to_first);
         for (row = 0; row == 0 || made.number != STROVIMEL_ROW; row++)
             for (length = 0; length <= STROVIMEL_LONGEST; length += 5) {
                 measure(&most[1], make);
@@ -99,7 +116,7 @@ int main(int count, char **paths)
                     measure(&most[2], gate);
             }
     }
-    printf("bytes of stack, of a call alone:\nsolve %zu\nmake %zu\ngate %zu\n", most[0] - none, most[1] - none,
-           most[2] - none);
+    printf("bytes of stack, of a call alone:\nsolve %zu\nmake %zu\ngate %zu\nto_second %zu\nto_first %zu\n",
+           most[0] - none, most[1] - none, most[2] - none, most[3] - none, most[4] - none);
     return 0;
 }

@@ -4,6 +4,7 @@
 use std::fmt::{self, Display, Formatter};
 
 use crate::program::hex;
+use crate::second::edition::Edition;
 
 #[derive(Clone, Copy, PartialEq, Eq, Debug)]
 pub enum Name {
@@ -13,6 +14,8 @@ pub enum Name {
     Solve,
     Make,
     Gate,
+    /// To the wanted edition.
+    Move(Edition),
 }
 
 /// Where a buffer stands between the two pages that nothing may touch.

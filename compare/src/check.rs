@@ -1,5 +1,6 @@
 //! A run of generated cases through the comparison, with arguments at every interesting edge.
 
+use std::iter;
 use std::ops::Range;
 use std::time::{Duration, Instant};
 
@@ -8,6 +9,7 @@ use crate::count::{count, Passed};
 use crate::gen;
 use crate::gen::damage::with_byte_changed;
 use crate::gen::lists;
+use crate::moves::moves;
 use crate::program::Program;
 use crate::second::gate::CutList;
 use crate::second::make::Plan;
@@ -77,6 +79,20 @@ fn run(
     Ok(Report { cases: done, tally: comparison.tally })
 }
 
+/// An accepted sheet, and the moved one if it has a form in the other edition.
+struct Accepted {
+    bytes: Vec<u8>,
+    moved: Option<Vec<u8>>,
+    sheet: Sheet,
+}
+
+impl Accepted {
+    /// Its forms, which are answered alike.
+    fn in_each_edition(&self) -> impl Iterator<Item = &Vec<u8>> {
+        iter::once(&self.bytes).chain(&self.moved)
+    }
+}
+
 /// One case of a run.
 struct Case<'a, 'b> {
     s: Seeded,
@@ -91,8 +107,10 @@ impl Case<'_, '_> {
             match Sheet::check(&bytes) {
                 Ok(sheet) => {
                     self.comparison.tally.sheet(&bytes, &sheet);
-                    self.walks(&bytes, &sheet)?;
-                    self.lists(&bytes, &sheet)?;
+                    let moved = moves(&mut self.s, self.comparison, &bytes)?;
+                    let accepted = Accepted { bytes, moved, sheet };
+                    self.walks(&accepted)?;
+                    self.lists(&accepted)?;
                 }
                 Err(_) => self.refused_sheet(&bytes)?,
             }
@@ -109,11 +127,13 @@ impl Case<'_, '_> {
             let (row, length) = (self.s.pick(&[0, 1, 256]), self.s.pick(&[0, 2, 61]));
             self.comparison.make(bytes, MakeCall { row, length, space })?;
         }
+        moves(&mut self.s, self.comparison, bytes)?;
         Ok(())
     }
 
-    /// The solver at every edge of budget, workspace and output.
-    fn walks(&mut self, bytes: &[u8], sheet: &Sheet) -> Result<(), Difference> {
+    /// The solver at every edge of budget, workspace and output; one walk answers both editions.
+    fn walks(&mut self, accepted: &Accepted) -> Result<(), Difference> {
+        let Accepted { bytes, sheet, .. } = accepted;
         let most = affordable(sheet);
         let full = walk(sheet, most);
         let budgets = match &full {
@@ -126,8 +146,10 @@ impl Case<'_, '_> {
         let answer = |_: &Sheet, budget| full.clone().filter(|walked| walked.trials <= budget);
         let longest = sheet.longest;
         for &budget in &budgets {
-            let (work, out) = (WORK + self.s.below(3), longest + self.s.below(3));
-            self.comparison.solve(bytes, SolveCall { budget, work, out }, answer)?;
+            for bytes in accepted.in_each_edition() {
+                let (work, out) = (WORK + self.s.below(3), longest + self.s.below(3));
+                self.comparison.solve(bytes, SolveCall { budget, work, out }, answer)?;
+            }
         }
         let mut edges =
             vec![(0, longest), (WORK - 1, longest), (WORK, longest), (WORK + 9, longest + 9)];
@@ -142,14 +164,17 @@ impl Case<'_, '_> {
     }
 
     /// The maker at every edge of row, length and space, then the gate on what it wrote.
-    fn lists(&mut self, bytes: &[u8], sheet: &Sheet) -> Result<(), Difference> {
+    fn lists(&mut self, accepted: &Accepted) -> Result<(), Difference> {
+        let Accepted { bytes, sheet, .. } = accepted;
         let rows = sheet.rows.len() as u64;
         let beyond = [rows, rows + 1, 65_536, 1 << 32, u64::MAX];
         let too_long = [61, 255, 256, 1 << 32, u64::MAX];
         let (row, length) = (self.s.pick(&beyond), self.s.pick(&too_long));
         let space = self.s.pick(&[0, 20, 500]);
-        self.comparison.make(bytes, MakeCall { row, length, space })?;
-        self.comparison.make(bytes, MakeCall { row, length: 2, space })?;
+        for bytes in accepted.in_each_edition() {
+            self.comparison.make(bytes, MakeCall { row, length, space })?;
+            self.comparison.make(bytes, MakeCall { row, length: 2, space })?;
+        }
         if rows == 0 {
             return Ok(());
         }
@@ -159,7 +184,7 @@ impl Case<'_, '_> {
             let row = self.s.below(sheet.rows.len()) as u64;
             let length =
                 if self.s.once_in(5) { self.s.pick(&[7, 12, 30, 59, 60]) } else { self.s.below(5) };
-            if let Some(list) = self.spaces(bytes, row, length as u64)? {
+            if let Some(list) = self.spaces(accepted, row, length as u64)? {
                 self.gates(&list, &sheet.text)?;
             }
         }
@@ -188,13 +213,15 @@ impl Case<'_, '_> {
         self.comparison.gate(call)
     }
 
-    /// The maker with every interesting space; the list, if it is of a length to be written.
+    /// The maker with every interesting space; the list, if it is of a length to be written. The
+    /// moved sheet has the same one.
     fn spaces(
         &mut self,
-        bytes: &[u8],
+        accepted: &Accepted,
         row: u64,
         length: u64,
     ) -> Result<Option<Vec<u8>>, Difference> {
+        let Accepted { bytes, moved, .. } = accepted;
         let size = Plan::check(bytes, row, length).map_or(0, |plan| plan.size());
         let mut spaces = vec![0, self.s.below(size.min(WRITTEN_LIST)), size.min(WRITTEN_LIST) - 1];
         if size <= WRITTEN_LIST {
@@ -203,6 +230,11 @@ impl Case<'_, '_> {
         let mut list = None;
         for space in spaces {
             list = self.comparison.make(bytes, MakeCall { row, length, space })?;
+        }
+        if let (Some(moved), Some(list)) = (moved, &list) {
+            self.comparison.make(moved, MakeCall { row, length, space: size - 1 })?;
+            let same = self.comparison.make(moved, MakeCall { row, length, space: size })?;
+            assert_eq!(same.as_ref(), Some(list), "a moved sheet's list");
         }
         Ok(list)
     }

@@ -5,13 +5,15 @@ use std::collections::VecDeque;
 
 use crate::call::{bytes, words, Buffer, Call, Name, Place, Reply};
 use crate::program::{hex, Program};
+use crate::second::edition::Edition;
 use crate::second::fault::Fault;
 use crate::second::gate::gate;
 use crate::second::make::make;
+use crate::second::moving::to_edition;
 use crate::second::sheet::Sheet;
 use crate::second::solve::{solve_by, Walked};
 use crate::seed::Seeded;
-use crate::tally::Tally;
+use crate::tally::{mover, Tally};
 
 /// So many calls and bytes of theirs are on the way at most.
 const CALLS: usize = 64;
@@ -121,6 +123,26 @@ impl<'a> Comparison<'a> {
         let (list, text) = (self.read("list", list), self.read("text", text));
         let buffers = vec![list, text, self.read("word", word), lent];
         self.put(Call::new(Name::Gate, &[], buffers), expected)
+    }
+
+    /// Moves the sheet to the wanted edition, with so many bytes of room; the moved sheet, if one was
+    /// written.
+    pub fn to_edition(
+        &mut self,
+        wanted: Edition,
+        sheet: &[u8],
+        room: usize,
+    ) -> Result<Option<Vec<u8>>, Difference> {
+        let lent = self.lent("room", room);
+        let mut room = lent.bytes.clone();
+        let second = to_edition(wanted, sheet, &mut room);
+        self.tally.answer(mover(wanted), second.fault());
+
+        let written = (second.number == 0).then(|| room[..second.length as usize].to_vec());
+        let expected = Reply { answer: second.numbers(), buffers: vec![sheet.to_vec(), room] };
+        let buffers = vec![self.read("sheet", sheet), lent];
+        self.put(Call::new(Name::Move(wanted), &[], buffers), expected)?;
+        Ok(written)
     }
 
     fn read(&mut self, name: &'static str, bytes: &[u8]) -> Buffer {

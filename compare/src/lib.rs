@@ -14,6 +14,7 @@ pub mod everyday;
 pub mod gen;
 pub mod guards;
 pub mod keys;
+mod moves;
 pub mod program;
 pub mod proved;
 pub mod regions;

@@ -1,23 +1,17 @@
-//! The three calls, so that any two programs that have them can be compared.
+//! The calls, so that any two programs that have them can be compared.
 
 use std::collections::VecDeque;
 
 use crate::call::{bytes, words, Call, Name, Reply};
+use crate::second::edition::Edition;
 use crate::second::gate::gate;
 use crate::second::make::{make, Made};
+use crate::second::moving::to_edition;
 use crate::second::sheet::LENGTH_LIMIT;
 use crate::second::solve::{solve, Solved, WORK};
 
+/// A program's calls: each as the program written here answers it, unless it has its own.
 pub trait Calls {
-    fn solve(&self, sheet: &[u8], budget: u64, work: &mut [u64], out: &mut [u8]) -> Solved;
-    fn make(&self, sheet: &[u8], row: u64, length: u64, list: &mut [u8]) -> Made;
-    fn gate(&self, list: &[u8], text: &[u8], word: &[u8], work: &mut [u64]) -> u32;
-}
-
-/// The program written here.
-pub struct Second;
-
-impl Calls for Second {
     fn solve(&self, sheet: &[u8], budget: u64, work: &mut [u64], out: &mut [u8]) -> Solved {
         solve(sheet, budget, work, out)
     }
@@ -29,7 +23,16 @@ impl Calls for Second {
     fn gate(&self, list: &[u8], text: &[u8], word: &[u8], work: &mut [u64]) -> u32 {
         gate(list, text, word, work)
     }
+
+    fn to_edition(&self, wanted: Edition, sheet: &[u8], room: &mut [u8]) -> Made {
+        to_edition(wanted, sheet, room)
+    }
 }
+
+/// The program written here.
+pub struct Second;
+
+impl Calls for Second {}
 
 /// A program under comparison: it is put calls, and gives their replies in the same order, each when
 /// it has it. An error says why it gives no more.
@@ -69,6 +72,9 @@ impl<C: Calls> Program for Here<C> {
                 let number = self.calls.gate(list, text, word, &mut lent);
                 *work = bytes(&lent);
                 vec![number.into()]
+            }
+            (Name::Move(wanted), [sheet, room]) => {
+                self.calls.to_edition(wanted, sheet, room).numbers()
             }
             _ => return Err(format!("no such call here: {:?}", call.name)),
         };

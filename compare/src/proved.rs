@@ -8,6 +8,7 @@ use std::thread;
 
 use crate::call::{pattern, Call, Name, Place, Reply};
 use crate::program::Program;
+use crate::second::edition::Edition;
 
 /// What runs the process, from the top of the repository.
 pub const RUN: [&str; 2] = ["tools/x86-64", "target/calls"];
@@ -98,6 +99,8 @@ pub fn message(call: &Call, times: u64) -> Vec<u8> {
         Name::Solve => 1,
         Name::Make => 2,
         Name::Gate => 3,
+        Name::Move(Edition::Second) => 4,
+        Name::Move(Edition::First) => 5,
     };
     let mut bytes = Vec::new();
     tell(&mut bytes, &[0, name, times, call.numbers.len() as u64, call.buffers.len() as u64]);

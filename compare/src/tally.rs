@@ -5,14 +5,27 @@ use std::fmt;
 
 use crate::second::edition::{CutRule, Edition};
 use crate::second::fault::Fault;
-use crate::second::sheet::{Assertion, Claim, Sheet};
+use crate::second::sheet::{Assertion, Claim, Sheet, NEW_BYTES};
+
+const TO_FIRST: &str = "to_first";
+const TO_SECOND: &str = "to_second";
 
 /// Every number a call can answer, but for those of a sheet's fault.
-const ANSWERS: [(&str, &[u32]); 3] =
-    [("solve", &[0, 1, 2, 18, 19]), ("make", &[0, 20, 21, 22]), ("gate", &[0, 1, 18, 30, 31])];
+const ANSWERS: [(&str, &[u32]); 5] = [
+    ("solve", &[0, 1, 2, 18, 19]),
+    ("make", &[0, 20, 21, 22]),
+    ("gate", &[0, 1, 18, 30, 31]),
+    (TO_FIRST, &[0, 40, 41]),
+    (TO_SECOND, &[0, 41]),
+];
 
-/// The calls that read a sheet.
-const READERS: [&str; 2] = ["solve", "make"];
+/// The call that moves a sheet to the wanted edition.
+pub fn mover(wanted: Edition) -> &'static str {
+    match wanted {
+        Edition::First => TO_FIRST,
+        Edition::Second => TO_SECOND,
+    }
+}
 
 /// Every number of a sheet's fault, the tables that it can name, and whether it names a record.
 const FAULTS: [(u32, &[u32], bool); 10] = [
@@ -122,9 +135,14 @@ fn kind(assertion: &Assertion) -> u8 {
 }
 
 /// Every answer of a call.
-fn answers(call: &str, numbers: &'static [u32]) -> impl Iterator<Item = Fault> {
-    let faults = READERS.contains(&call).then(sheet_faults);
-    numbers.iter().map(|&number| Fault::alone(number)).chain(faults.into_iter().flatten())
+fn answers(call: &'static str, numbers: &'static [u32]) -> impl Iterator<Item = Fault> {
+    let faults = sheet_faults().filter(move |fault| match call {
+        "gate" => false,
+        // It reads sheets of the first edition alone.
+        TO_SECOND => fault.table != NEW_BYTES as u32,
+        _ => true,
+    });
+    numbers.iter().map(|&number| Fault::alone(number)).chain(faults)
 }
 
 fn sheet_faults() -> impl Iterator<Item = Fault> {
@@ -140,7 +158,7 @@ fn meaning(call: &str, answer: Fault) -> String {
         ("solve", 0) => "found".into(),
         ("solve", 1) => "none".into(),
         ("solve", 2) => "spent".into(),
-        ("make", 0) => "written".into(),
+        ("make" | TO_FIRST | TO_SECOND, 0) => "written".into(),
         ("gate", 0) => "yes".into(),
         ("gate", 1) => "no".into(),
         _ if answer.record > 0 => format!("{answer} or later"),

@@ -235,14 +235,6 @@ impl Calls for Counting {
         };
         solve_by(walk, sheet, budget, work, out)
     }
-
-    fn make(&self, sheet: &[u8], row: u64, length: u64, list: &mut [u8]) -> Made {
-        Second.make(sheet, row, length, list)
-    }
-
-    fn gate(&self, list: &[u8], text: &[u8], word: &[u8], work: &mut [u64]) -> u32 {
-        Second.gate(list, text, word, work)
-    }
 }
 
 #[test]

@@ -2,20 +2,18 @@
 //! edition under cut rule 0 against its form in the first.
 
 use compare::draft::{Draft, CUT_RULE_0, CUT_RULE_1};
-use compare::gen::alike::alike;
-use compare::gen::contained::contained;
-use compare::gen::cuts::cuts;
-use compare::gen::filters::filters;
-use compare::gen::limits::limits;
-use compare::gen::small::small;
 use compare::keys::{brackets, keys, over, star_of_a};
 use compare::program::answer;
 use compare::regions::regions;
 use compare::second::fault::Fault;
 use compare::second::make::{make, Made, Plan};
-use compare::second::sheet::{Sheet, ASSERTIONS, LETTERS, NEW_BYTES, ROWS, TABLES, TEXT};
+use compare::second::sheet::{Sheet, ASSERTIONS, LETTERS, NEW_BYTES, ROWS, TEXT};
 use compare::second::solve::{solve, Solved, WORK};
 use compare::seed::Seeded;
+
+mod drafts;
+
+use drafts::{any_sort, full};
 
 const ACCEPTED: Fault = Fault::alone(0);
 const BAD_NEW_BYTE: Fault = Fault::at(16, NEW_BYTES, 0);
@@ -87,17 +85,6 @@ fn shortest() {
         assert_eq!(fault(&zeros(length, b"PRM3")), Fault::alone(12));
     }
     assert_eq!(fault(&zeros(36, b"PRM2")), no_letters);
-}
-
-/// Every table with as many records as it may have, and so many bytes of text.
-fn full(text: usize) -> Draft {
-    let mut draft = over(&[(b'a', b'a')], 1, 1);
-    draft.letters.resize(TABLES[LETTERS].most, (b'a', b'a'));
-    draft.text.resize(text, b'a');
-    draft.rows.resize(TABLES[ROWS].most, (1, 0, 0));
-    draft.parts.resize(64, (2, 0, 0));
-    (0..TABLES[ASSERTIONS].most).for_each(|_| draft.assert((1, 1), (0, 1), (0, 0)));
-    draft
 }
 
 #[test]
@@ -216,15 +203,7 @@ fn list_of_the_second_edition() {
 
 /// Sheets of every sort, without their new bytes.
 fn sheet(s: &mut Seeded) -> Draft {
-    let draft = match s.below(20) {
-        0..=4 => small(s, 2),
-        5..=9 => filters(s, 5),
-        10..=12 => alike(s),
-        13..=15 => contained(s, 5),
-        16..=18 => cuts(s, 5),
-        _ => limits(s),
-    };
-    Draft { new_bytes: None, ..draft }
+    Draft { new_bytes: None, ..any_sort(s) }
 }
 
 /// All that the solver says and leaves.

@@ -27,13 +27,17 @@ impl Edition {
         }
     }
 
-    /// Bytes of the whole trailer.
-    pub const fn trailer(self) -> usize {
-        let new_bytes = match self {
+    /// How many new bytes the trailer has.
+    pub const fn new_bytes(self) -> usize {
+        match self {
             Edition::First => 0,
             Edition::Second => 4,
-        };
-        FIELDS + new_bytes + TOTAL_AND_MARK
+        }
+    }
+
+    /// Bytes of the whole trailer.
+    pub const fn trailer(self) -> usize {
+        FIELDS + self.new_bytes() + TOTAL_AND_MARK
     }
 
     /// Where the trailer begins, or nothing if the sheet is too short for it.

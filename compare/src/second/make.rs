@@ -4,6 +4,7 @@ use super::derive::derives_word;
 use super::fault::Fault;
 use super::sheet::{Row, Sheet, LENGTH_LIMIT};
 
+/// The report on a list, or on a moved sheet.
 #[derive(Clone, Copy, PartialEq, Eq, Debug)]
 pub struct Made {
     pub number: u32,
@@ -13,12 +14,12 @@ pub struct Made {
 }
 
 impl Made {
-    /// A list of so many bytes.
+    /// So many bytes are written.
     pub fn written(length: usize) -> Made {
         Made { number: 0, table: 0, record: 0, length: length as u32 }
     }
 
-    fn refused(Fault { number, table, record }: Fault) -> Made {
+    pub fn refused(Fault { number, table, record }: Fault) -> Made {
         Made { number, table, record, length: 0 }
     }
 

@@ -1,7 +1,7 @@
 //! The checker of a problem sheet: refusals 10 to 17 in the papers' order, 141 behind 14, then the
 //! sheet parsed.
 
-use super::edition::{cut_rule, CutRule, Edition, FIELDS, TOTAL_AND_MARK};
+use super::edition::{cut_rule, CutRule, Edition, EDITIONS, FIELDS, TOTAL_AND_MARK};
 use super::fault::Fault;
 
 /// The shortest sheet, of either edition: as long as the first one's trailer.
@@ -98,7 +98,12 @@ pub struct Sheet {
 impl Sheet {
     /// The sheet, or its first fault.
     pub fn check(bytes: &[u8]) -> Result<Sheet, Fault> {
-        let sheet = Trailer::check(bytes)?.sheet(bytes)?;
+        Sheet::check_of(&EDITIONS, bytes)
+    }
+
+    /// The same where a call takes these editions alone.
+    pub fn check_of(editions: &[Edition], bytes: &[u8]) -> Result<Sheet, Fault> {
+        let sheet = Trailer::check(editions, bytes)?.sheet(bytes)?;
         let long = |a: &Assertion| a.terms().any(|term| sheet.term_length(term) > LENGTH_LIMIT);
         match sheet.assertions.iter().position(long) {
             None => Ok(sheet),
@@ -155,14 +160,15 @@ struct Trailer<'a> {
 
 impl Trailer<'_> {
     /// Refusals 10 to 15.
-    fn check(bytes: &[u8]) -> Result<Trailer<'_>, Fault> {
+    fn check<'a>(editions: &[Edition], bytes: &'a [u8]) -> Result<Trailer<'a>, Fault> {
         if bytes.len() < SHEET_LEAST {
             return Err(Fault::alone(10));
         }
         if bytes.len() > SHEET_LIMIT {
             return Err(Fault::alone(11));
         }
-        let edition = Edition::of(bytes).ok_or(Fault::alone(12))?;
+        let edition = Edition::of(bytes).filter(|edition| editions.contains(edition));
+        let edition = edition.ok_or(Fault::alone(12))?;
         let total = read_u32(bytes, bytes.len() - TOTAL_AND_MARK) as usize;
         // A sheet too short for its own trailer is refused whatever the total that it stores.
         let start = edition.trailer_start(bytes).filter(|_| total == bytes.len());
