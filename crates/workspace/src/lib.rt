@@ -5,7 +5,7 @@ ghost use Prim.Native.Nat.{_+_, _*_, _≤_, _<_};
 ghost use lib.ListN.{length};
 ghost use Rattle.paper.specs.Answers.{words, zeroed};
 ghost use Rattle.workspace.specs.Spans.{spanAt};
-ghost use Rattle.workspace.specs.Bits.{bitAt, setBit, putBit, wiped, copied, joined, noneAt};
+ghost use Rattle.workspace.specs.Bits.{bitAt, setBit, putBit, fourAt, wiped, copied, joined, noneAt};
 ghost use Rattle.workspace.specs.Room.{Grows};
 ghost use Rattle.workspace.specs.Scan.{inBoth, First};
 
@@ -74,16 +74,24 @@ pub fn next(ws: &[u64], a: usize, b: usize, p: usize, n: usize) -> usize
     n
 }
 
+// The words a, b, c, d into span s.
+fn put_four(ws: &mut [u64], s: usize, a: u64, b: u64, c: u64, d: u64)
+    requires { ⌜ 4 * s + 4 ≤ length (now ws) ⌝ }
+    ensures { λ _. ⌜ now (ws .exit) ≡ fourAt (now (ws .entry)) s a b c d ⌝ }
+{
+    let i = 4 * s;
+    ws[i] = a;
+    ws[i + 1] = b;
+    ws[i + 2] = c;
+    ws[i + 3] = d;
+}
+
 // No row left in span s.
 pub fn wipe(ws: &mut [u64], s: usize)
     requires { ⌜ 4 * s + 4 ≤ length (now ws) ⌝ }
     ensures { λ _. ⌜ now (ws .exit) ≡ wiped (now (ws .entry)) s ⌝ }
 {
-    let i = 4 * s;
-    ws[i] = 0;
-    ws[i + 1] = 0;
-    ws[i + 2] = 0;
-    ws[i + 3] = 0;
+    put_four(ws, s, 0, 0, 0, 0);
 }
 
 // The rows of entry q of another table, and no other, into span s.
@@ -91,12 +99,8 @@ pub fn copy(ws: &mut [u64], s: usize, from: &[u64], q: usize)
     requires { ⌜ (4 * s + 4 ≤ length (now ws)) × (4 * q + 4 ≤ length (now from)) ⌝ }
     ensures { λ _. ⌜ now (ws .exit) ≡ copied (now (ws .entry)) s (now (from .entry)) q ⌝ }
 {
-    let i = 4 * s;
     let j = 4 * q;
-    ws[i] = from[j];
-    ws[i + 1] = from[j + 1];
-    ws[i + 2] = from[j + 2];
-    ws[i + 3] = from[j + 3];
+    put_four(ws, s, from[j], from[j + 1], from[j + 2], from[j + 3]);
 }
 
 // The rows of entry q of another table, besides those that are there, into span s.
@@ -110,10 +114,7 @@ pub fn join(ws: &mut [u64], s: usize, from: &[u64], q: usize)
     let b = ws[i + 1] | from[j + 1];
     let c = ws[i + 2] | from[j + 2];
     let d = ws[i + 3] | from[j + 3];
-    ws[i] = a;
-    ws[i + 1] = b;
-    ws[i + 2] = c;
-    ws[i + 3] = d;
+    put_four(ws, s, a, b, c, d);
 }
 
 // Row r into span s. Whether it is new there.
@@ -149,10 +150,7 @@ pub fn merge(ws: &mut [u64], s: usize, q: usize) -> bool
     if (a ^ w) | (b ^ x) | (c ^ y) | (d ^ z) == 0 {
         return false;
     }
-    ws[i] = a;
-    ws[i + 1] = b;
-    ws[i + 2] = c;
-    ws[i + 3] = d;
+    put_four(ws, s, a, b, c, d);
     true
 }
 

@@ -1,14 +1,11 @@
-use mathlib.Core.Path.{refl}
-use native.Mathlib.Omega.{arith}
-use lib.ListN.{length-set}
 use borrow.Author.Needs.{needs}
-use Rattle.workspace.specs.Bits.{copied, fourAt}
+use Rattle.workspace.specs.Bits.{copied}
 use Rattle.workspace.proofs.copy.Statement.{statement}
 use Rattle.workspace.proofs.copy.Tie as tie
 
 returns : tie.Need-returns
-unfolding copied fourAt
-returns c = refl
+unfolding copied
+returns c = c .before .before .put-four .ensures
 
 pub copy-spec : {M : Type 1} → statement M
 copy-spec =
@@ -25,18 +22,7 @@ copy-spec =
     (λ c. search needs)
     (λ c. search needs)
     (λ c. search needs)
-    (λ c. simp length-set (omega arith))
     (λ c. search needs)
-    (λ c. search needs)
-    (λ c. search needs)
-    (λ c. search needs)
-    (λ c. search needs)
-    (λ c. simp length-set (omega arith))
-    (λ c. search needs)
-    (λ c. search needs)
-    (λ c. search needs)
-    (λ c. search needs)
-    (λ c. search needs)
-    (λ c. simp length-set (omega arith))
+    (λ c κs. search needs)
     (λ c. search needs)
     returns)

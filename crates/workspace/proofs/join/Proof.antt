@@ -1,14 +1,11 @@
-use mathlib.Core.Path.{refl}
-use native.Mathlib.Omega.{arith}
-use lib.ListN.{length-set}
 use borrow.Author.Needs.{needs}
-use Rattle.workspace.specs.Bits.{joined, fourAt}
+use Rattle.workspace.specs.Bits.{joined}
 use Rattle.workspace.proofs.join.Statement.{statement}
 use Rattle.workspace.proofs.join.Tie as tie
 
 returns : tie.Need-returns
-unfolding joined fourAt
-returns c = refl
+unfolding joined
+returns c = c .before .before .put-four .ensures
 
 pub join-spec : {M : Type 1} → statement M
 join-spec =
@@ -38,16 +35,6 @@ join-spec =
     (λ c. search needs)
     (λ c. search needs)
     (λ c. search needs)
-    (λ c. search needs)
-    (λ c. search needs)
-    (λ c. search needs)
-    (λ c. search needs)
-    (λ c. simp length-set (omega arith))
-    (λ c. search needs)
-    (λ c. search needs)
-    (λ c. simp length-set (omega arith))
-    (λ c. search needs)
-    (λ c. search needs)
-    (λ c. simp length-set (omega arith))
+    (λ c κs. search needs)
     (λ c. search needs)
     returns)
