@@ -1,4 +1,6 @@
 // Numbers and marks in a run of bytes, as sheets and cut lists have them: read, and written.
+#![tactic(auto)]
+
 ghost use Rattle.std.specs.Prelude.{◌≡◌, [], ◌∷◌, ◌+◌, ◌≤◌, ◌<◌, length};
 ghost use Rattle.paper.specs.Bytes.{u16_at, u32_at, mark_at, u16, u32};
 ghost use Rattle.numbers.specs.Put.{Put};

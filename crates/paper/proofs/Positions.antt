@@ -22,7 +22,7 @@ unfolding all_bytes
 stands_options [] h j u = absurd (not-suc-le-zero u)
 stands_options {o = o} (x ∷ os) h zero u = stands_at (o + 8 * 0) (omega arith) (stands_head (option_bytes x) (all_bytes os) h)
 stands_options {o = o} (x ∷ os) h (suc j) u =
-    let t = stands_options os (stands_tail (option_bytes x) (all_bytes os) h) j (omega arith) in
+    let t = stands_options {o = o + length (option_bytes x)} os (stands_tail (option_bytes x) (all_bytes os) h) j (omega arith) in
     stands_at (o + 8 * suc j) (omega (arith, length_option x)) t
 
 -- where the entry of row r stands, counted from the list's start

@@ -1,0 +1,12 @@
+use mathlib.Core.Path.{◌≡◌}
+use Prim.Native.Nat.{◌+◌, ◌-◌, ◌≤◌}
+use lib.ListN.{length, take}
+use Rattle.numbers.specs.Put.{Put}
+use Rattle.numbers.proofs.put_bytes.Given as goal
+
+-- i bytes of x are written
+abbrev pub invariant-loop-i : goal.invariant-loop-i
+invariant-loop-i l = Put (take l.i l.x) l.o l.initial.list l.list (l.o + l.i) × (l.i ≤ length l.x) × (length l.list ≡ length l.initial.list)
+
+abbrev pub decreases-loop-i : goal.decreases-loop-i
+decreases-loop-i l = length l.x - l.i
