@@ -36,9 +36,13 @@ class Names:
         self.need = {}
         for i, (o, n) in enumerate(self.needs):
             self.need[o] = (n, self.asked[i] if i < len(self.asked) else None)
+        for i, (o, n) in enumerate(self.needs):
+            self.need.setdefault(norm(n), self.need[o])
+        self.arms = {norm(p[0]): a for p, a in zip(entry["places"], entry["arms"]) if a}
         self.loops = entry["loops"]
         self.changed = entry["changed"]
         self.params = entry["params"]
+        self.root = {}
 
     def up(self, place, n):
         for _ in range(n):
@@ -46,6 +50,18 @@ class Names:
                 return None
             place = self.parent.get(place)
         return place
+
+    def arm(self, place, fields):
+        """What an arm calls a path in the old spelling: its fields, and how many of the path they stand for."""
+        p = place
+        while p is not None:
+            if p in self.arms:
+                name, _, entries = self.arms[p]
+                for new, step, path in sorted(entries, key=lambda e: -len(e[2])):
+                    if path and norm(step) == norm(fields[0]) and [norm(x) for x in path] == [norm(x) for x in fields[1 : 1 + len(path)]]:
+                        return [name, new], 1 + len(path)
+            p = self.parent.get(p)
+        return None
 
     def find(self, place, field):
         """The place at or above `place` whose own step is `field` in the old spelling."""
@@ -77,42 +93,53 @@ def fix_field(names, nf, callee, rest):
 WARN = []
 
 
-def convert(text, names, places, where):
-    """Turns every path of a variable in `places` (its name to its old place)."""
-    places = dict(places)
+def convert(text, names, places, where, goal=None):
+    """Turns every path of a variable in `places` (its name to its old place). `goal`: the answer's, if it is one."""
+    places = {v: (v, p) for v, p in places.items()}
     out, at = [], 0
     path = re.compile(r"(?<![\w.'-])(" + IDENT + r")((?:\.(?:\d+|" + IDENT + r"))*)")
-    let = re.compile(r"let (" + IDENT + r") = (" + IDENT + r")((?:\.before)*) in\b")
     for m in path.finditer(text):
+        if m.start() < at:
+            continue
         var, fields = m.group(1), [f for f in m.group(2).split(".") if f]
         if var not in places:
             continue
-        out.append(text[at:m.start()])
-        at = m.end()
-        place, n = places[var], 0
+        root, place = places[var]
+        n = 0
         while n < len(fields) and fields[n] == "before":
             n += 1
         there = names.up(place, n)
         if there is None:
             WARN.append(f"{where}: {m.group(0)} goes above the start")
-            out.append(m.group(0))
             continue
         rest = fields[n:]
-        # a place that a let binds
+        # a place that a let binds: its names are `root`'s own now
         bound = re.search(r"let (" + IDENT + r") = $", text[: m.start()])
-        if not rest:
-            if bound and re.match(r"\s+in\b", text[m.end():]):
-                places[bound.group(1)] = there
-                out.append(".".join([var] + fields[:n]))
-            else:
-                out.append(".".join([var] + fields[:n]))
+        if not rest and bound and re.match(r"\s+in\s", text[m.end():]):
+            places[bound.group(1)] = (root, there)
+            out.append(text[at : bound.start()])
+            at = m.end() + re.match(r"\s+in\s\s*", text[m.end():]).end()
             continue
+        out.append(text[at : m.start()])
+        at = m.end()
+        if not rest:
+            if there == names.root.get(root, there) and there == places[root][1]:
+                out.append(root)
+            elif goal:
+                out.append(f"(goal.at.{goal} {root}).{names.new_place[there]}")
+            else:
+                WARN.append(f"{where}: a helper passes on {names.new_place[there]}")
+                out.append(f"(UP {root}).{names.new_place[there]}")
+            continue
+        arm = names.arm(there, rest)
         found = names.find(there, rest[0])
-        if found:
+        if arm:
+            out.append(".".join([root] + arm[0] + rest[arm[1]:]))
+        elif found:
             nf, callee = found
-            out.append(".".join([var, nf] + fix_field(names, nf, callee, rest[1:])))
+            out.append(".".join([root, nf] + fix_field(names, nf, callee, rest[1:])))
         else:
-            out.append(".".join([var] + rest))
+            out.append(".".join([root] + rest))
     out.append(text[at:])
     return "".join(out)
 
@@ -249,8 +276,7 @@ def convert_function(crate, folder, names, reserve):
             t = re.sub(r"(?<![\w.'-])" + re.escape(la) + r"(?![\w'-])", "", t)
         return re.sub(r"  +", " ", t)
 
-    answers, helpers, inv_helpers = [], [], []
-    emitted = set()
+    helpers, inv_helpers, shared = [], [], set()
     # declarations that the invariants name go beside them
     inv_text = "\n".join(b for _, _, _, b in invariants)
     for b in blocks:
@@ -266,7 +292,8 @@ def convert_function(crate, folder, names, reserve):
             if old not in names.places:
                 WARN.append(f"{where}: {b['name']}: no place {m.group(2)}")
             place = old if old in names.places else None
-            sig = sig[: m.start()] + f"({m.group(1)} : goal.{names.new_place.get(old, m.group(2))})" + sig[m.end():]
+            shared.add(names.new_place.get(old, m.group(2)))
+            sig = sig[: m.start()] + f"({m.group(1)} : {names.new_place.get(old, m.group(2))})" + sig[m.end():]
             sig = drop_loops(sig)
             if place:
                 sig = convert(sig, names, {m.group(1): place}, where)
@@ -298,19 +325,19 @@ def convert_function(crate, folder, names, reserve):
                         head.remove("κs")
                     if head != ["c"]:
                         WARN.append(f"{where}: {arg} takes {head}")
-                    cl.append((" ".join([new] + head), words(convert(body, names, {head[0] if head else 'c': place}, where))))
+                    cl.append((" ".join([new] + head), words(convert(body, names, {head[0] if head else "c": place}, where, new))))
                 order.append((b["notes"], new, b["unfolding"], cl))
                 continue
             order.append(([], new, [], [(new + " c", f"{rename[arg]} c")]))
             continue
-        m = re.match(r"\(λ ((?:\S+ )*\S+)\. (.*)\)$", arg, re.S)
+        m = re.match(r"\(λ ([^.()]*)\. (.*)\)$", arg, re.S)
         if m:
             head = m.group(1).split()
             body = m.group(2)
             if "κs" in head:
                 head.remove("κs")
             var = head[0] if head else "c"
-            body = words(convert(body, names, {var: place}, where))
+            body = words(convert(body, names, {var: place}, where, new))
             one = ([], new, [], [(new + " " + " ".join(head), body)])
             if TRIVIAL.match(body.strip()):
                 spare[new] = f"{new} {' '.join(head)} = {body}"
@@ -345,6 +372,8 @@ def convert_function(crate, folder, names, reserve):
         more = []
         if inv_helpers:
             more = [f"use {module}.Invariants.{{{', '.join(it[2] for it in inv_helpers)}}}"]
+        if shared:
+            more.append(f"use {module}.Goals.{{{', '.join(sorted(shared))}}}")
         t = "\n".join(keep + more + [f"use {module}.Goals as goal", ""] + body)
         open(os.path.join(folder, "Answers.antt"), "w", encoding="utf-8").write(t.rstrip("\n") + "\n")
     os.remove(path)

@@ -1,3 +1,5 @@
+#![tactic(auto)]
+
 // The slots of letters that no constraint of a sheet tells apart.
 mod compare;
 mod ranges;
@@ -11,13 +13,13 @@ ghost use Rattle.walk.specs.Progress.{Classes};
 ghost use Rattle.alike.specs.Slots.{BarsOthers, TextBarred, Barred, OwnerLike, SlotFor, Given};
 
 // A slot for each byte: letters of one slot are alike; slot 0 says nothing.
-#[derive(Drop)]
+#[derive(Clone, Copy)]
 pub struct Slots {
     pub of: [u8; 256],
 }
 
 // 0 for each byte that may have a slot.
-#[derive(Drop)]
+#[derive(Clone, Copy)]
 struct Bars {
     of: [u8; 256],
 }

@@ -1,3 +1,5 @@
+#![tactic(auto)]
+
 // Which rows derive which span of a term whose places are known or unknown, in the lent workspace.
 // A place is a byte, or 256 where it is not known. Spans are filled the shorter ones first, each before it is read.
 pub mod singles;

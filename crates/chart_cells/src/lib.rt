@@ -1,3 +1,5 @@
+#![tactic(auto)]
+
 // What a cell has from shorter spans, two at a time, and from the rows that it holds already.
 ghost use Rattle.std.specs.Prelude.{◌≡◌, ◌≢◌, ◌+◌, ◌-◌, ◌*◌, ◌≤◌, ◌<◌, length, get_or};
 ghost use Rattle.workspace.specs.Spans.{span_at};

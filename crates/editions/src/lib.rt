@@ -1,3 +1,5 @@
+#![tactic(auto)]
+
 // Sheets moved between editions.
 ghost use Rattle.std.specs.Prelude.{◌≡◌, ◌+◌, ◌≤◌, length};
 ghost use Rattle.paper.specs.Answers.{written};

@@ -2,7 +2,7 @@
 ghost use Rattle.std.specs.Prelude.{◌≡◌};
 ghost use Rattle.gate.specs.Number.{number_of};
 
-#[derive(Drop)]
+#[derive(Clone, Copy)]
 pub enum Gate {
     Yes,
     No,

@@ -1,3 +1,5 @@
+#![tactic(auto)]
+
 // The gate: reads any well-formed cut list and says whether the list accepts a word. It knows nothing of sheets or solving.
 pub mod answer;
 

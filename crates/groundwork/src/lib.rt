@@ -1,3 +1,5 @@
+#![tactic(auto)]
+
 // The groundwork of a sheet: what every trial reads and no trial changes.
 ghost use Rattle.std.specs.Prelude.{◌≡◌, ◌+◌, ◌*◌, ◌≤◌, ◌<◌, length};
 ghost use Rattle.paper.specs.Rows.{Range};

@@ -6,7 +6,7 @@ ghost use Rattle.judge.specs.Charts.{is_of, none_held, after_of};
 use sheet_contents::{Assertion, Claim, Run};
 
 // The run whose term's chart the workspace holds, if it holds any.
-#[derive(Drop)]
+#[derive(Clone, Copy)]
 pub struct Held {
     pub any: bool,
     pub run: Run,

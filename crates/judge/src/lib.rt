@@ -1,3 +1,5 @@
+#![tactic(auto)]
+
 // Is a prefix open at a length?
 pub mod claims;
 pub mod held;
@@ -20,7 +22,7 @@ use sheet_contents::Assertion;
 use sheet_trailer::Table;
 
 // Whether an assertion is possible, and the chart that the workspace holds once it was judged.
-#[derive(Drop)]
+#[derive(Clone, Copy)]
 pub struct Ruled {
     pub ok: bool,
     pub held: held::Held,

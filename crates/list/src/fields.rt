@@ -60,7 +60,7 @@ pub fn trailer_ok(list: &[u8]) -> bool
 }
 
 // The trailer of a list: its n, its row count, its root, and where the trailer begins.
-#[derive(Drop)]
+#[derive(Clone, Copy)]
 pub struct Trailer {
     pub n: usize,
     pub rows: usize,
@@ -85,7 +85,7 @@ pub fn trailer_of(list: &[u8]) -> Trailer
 }
 
 // An option's fields but its zero field.
-#[derive(Drop)]
+#[derive(Clone, Copy)]
 pub struct Fields {
     pub kind: u8,
     pub k: usize,
@@ -105,7 +105,7 @@ pub fn fields_at(list: &[u8], o: usize) -> Fields
 }
 
 // An option: one byte, a stretch of the text, the first k bytes by one row and the rest by another, or no byte.
-#[derive(Drop)]
+#[derive(Clone, Copy)]
 pub enum Opt {
     Byte(usize, usize),
     Stretch(usize, usize),

@@ -1,3 +1,5 @@
+#![tactic(auto)]
+
 // A cut list: the readers of its numbers, and when it is well formed. Positions run along, so that the work is in proportion to the list's length.
 pub mod fields;
 
@@ -104,7 +106,7 @@ fn options_ok(list: &[u8], t: Trailer, text: usize, m: usize, o: usize, count: u
 }
 
 // Where what was looked at ends, or that it breaks its rule.
-#[derive(Drop)]
+#[derive(Clone, Copy)]
 pub enum Past {
     End(usize),
     Broken,

@@ -1,3 +1,5 @@
+#![tactic(auto)]
+
 // The maker of cut lists.
 ghost use Rattle.std.specs.Prelude.{◌+◌, ◌*◌, ◌≤◌, ◌<◌, length};
 ghost use Rattle.paper.specs.Tests.{gather};

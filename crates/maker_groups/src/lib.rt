@@ -1,3 +1,5 @@
+#![tactic(auto)]
+
 // A cut list's groups, heads and options written. Each writer hands back where it ended.
 pub mod bytes;
 
@@ -51,7 +53,7 @@ fn put_own(list: &mut [u8], o: usize, row: Row, m: usize, q: usize) -> usize
 }
 
 // A place of the list: for row r at length m, at o.
-#[derive(Drop)]
+#[derive(Clone, Copy)]
 pub struct Spot {
     pub m: usize,
     pub r: usize,

@@ -1,3 +1,5 @@
+#![tactic(auto)]
+
 // The papers' rules are in specs/, and the theorems that join them in proofs/. One of the paper's sizes, for the crates above.
 ghost use Rattle.std.specs.Prelude.{◌≡◌};
 

@@ -1,3 +1,5 @@
+#![tactic(auto)]
+
 // The reading: a bit of the workspace for each row and each part of the word that it accepts, the shorter lengths first.
 ghost use Rattle.std.specs.Prelude.{◌≡◌, ◌+◌, ◌≤◌, ◌<◌, length};
 ghost use Rattle.paper.specs.Decide.{exactly, fits};

@@ -1,3 +1,5 @@
+#![tactic(auto)]
+
 // What is made once a call from a sheet's rows: the rows that derive the empty word, and for each row the rows that reach it by steps
 // that keep the length. Each is a closure in place: passes over the rows, rising and falling by turns, until one adds nothing.
 ghost use Rattle.std.specs.Prelude.{◌≡◌, true, ◌+◌, ◌*◌, ◌≤◌, ◌<◌, length};
@@ -82,7 +84,7 @@ pub fn nulls(s: &[u8], t: Table, out: &mut [u64])
 }
 
 // A row's children, and whether a step that keeps the length leads to each.
-#[derive(Drop)]
+#[derive(Clone, Copy)]
 struct Steps {
     a: usize,
     first: bool,

@@ -1,3 +1,5 @@
+#![tactic(auto)]
+
 // The search: the walk under the budget, each prefix judged.
 pub mod letters;
 
@@ -15,7 +17,7 @@ ghost use Rattle.workspace.specs.Within.{Within};
 ghost use Rattle.search.specs.Tells.{Tells};
 
 // How a search ended: the number 0, 1 or 2, the word, the trials.
-#[derive(Drop)]
+#[derive(Clone, Copy)]
 pub struct Sought {
     pub number: u8,
     pub prefix: walk_state::Prefix,

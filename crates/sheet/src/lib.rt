@@ -1,3 +1,5 @@
+#![tactic(auto)]
+
 // A sheet's first fault, and the readers of an accepted sheet.
 ghost use Rattle.std.specs.Prelude.{◌≡◌, ◌&&◌, ◌+◌, ◌≤◌, ◌<◌, leb, length};
 ghost use Rattle.paper.specs.Bytes.{u8_at};
@@ -14,7 +16,7 @@ use sheet_contents::{Assertion, Part, Row};
 use sheet_trailer::Table;
 
 // A fault by the paper's number, with the table and the record at fault; all 0 where there is none.
-#[derive(Drop)]
+#[derive(Clone, Copy)]
 pub struct Fault {
     pub number: u32,
     pub table: u32,
@@ -22,7 +24,7 @@ pub struct Fault {
 }
 
 // What a call that writes answers: 0 with the length written, or a fault.
-#[derive(Drop)]
+#[derive(Clone, Copy)]
 pub enum Made {
     Written(usize),
     Refused(Fault),
@@ -94,7 +96,7 @@ fn check_tables(s: &[u8]) -> Fault
 }
 
 // What a call takes: the editions from `first` to `last`, and at most so many bytes.
-#[derive(Drop)]
+#[derive(Clone, Copy)]
 pub struct Takes {
     pub first: usize,
     pub last: usize,

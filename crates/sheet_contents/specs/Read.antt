@@ -49,9 +49,9 @@ SmallPart (terms.Cut a b) = (a < 65536) × (b < 65536)
 
 -- the part at o
 pub record PartRead (s : List ℕ) (o : ℕ) (r : Part) : Type 0 where
-  pub same : as_part r ≡ sheet.partAt s o
+  pub same : as_part r ≡ sheet.part_at s o
   pub small : SmallPart (as_part r)
 
 -- the assertion at o
 abbrev pub AssertionRead : List ℕ → ℕ → Assertion → Type 0
-AssertionRead s o r = as_assertion r ≡ sheet.assertionAt s o
+AssertionRead s o r = as_assertion r ≡ sheet.assertion_at s o

@@ -1,3 +1,5 @@
+#![tactic(auto)]
+
 // A sheet's rows, parts and assertions, read from the bytes at which they stand.
 ghost use Rattle.std.specs.Prelude.{◌≡◌, ◌+◌, ◌≤◌, ◌<◌, length};
 ghost use Rattle.paper.specs.Rows.{row_of};
@@ -5,7 +7,7 @@ ghost use Rattle.paper.specs.Terms.{part_of};
 ghost use Rattle.paper.specs.Sheet.{claim_of, second_run};
 ghost use Rattle.sheet_contents.specs.Read.{as_row, as_part, as_claim, as_run, SmallPart, RowRead, PartRead, AssertionRead};
 
-#[derive(Drop)]
+#[derive(Clone, Copy)]
 pub enum Row {
     Empty,
     Range(usize, usize),
@@ -15,14 +17,14 @@ pub enum Row {
     Star(usize),
 }
 
-#[derive(Drop)]
+#[derive(Clone, Copy)]
 pub enum Part {
     Const(usize, usize),
     All,
     Cut(usize, usize),
 }
 
-#[derive(Drop)]
+#[derive(Clone, Copy)]
 pub enum Claim {
     Derived(usize),
     Contains(usize, usize),
@@ -31,13 +33,13 @@ pub enum Claim {
 }
 
 // A run of parts of the table.
-#[derive(Drop)]
+#[derive(Clone, Copy)]
 pub struct Run {
     pub first: usize,
     pub count: usize,
 }
 
-#[derive(Drop)]
+#[derive(Clone, Copy)]
 pub struct Assertion {
     pub claim: Claim,
     pub denied: bool,

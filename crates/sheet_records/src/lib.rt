@@ -1,3 +1,5 @@
+#![tactic(auto)]
+
 // A sheet's records and terms: the faults 16 and 17.
 mod rules;
 pub mod terms;

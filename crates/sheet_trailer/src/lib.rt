@@ -1,3 +1,5 @@
+#![tactic(auto)]
+
 // A sheet's trailer: its edition, its fields by name, its rules, and the faults 12 to 15.
 ghost use Rattle.std.specs.Prelude.{◌≡◌, ◌+◌, ◌≤◌, ◌<◌, length};
 ghost use Rattle.paper.specs.Tests.{first_bad};
@@ -64,7 +66,7 @@ pub fn count_of(s: &[u8], t: usize) -> usize
 }
 
 // Where a table's records begin, and how many there are.
-#[derive(Drop)]
+#[derive(Clone, Copy)]
 pub struct Table {
     pub at: usize,
     pub count: usize,
@@ -101,7 +103,7 @@ pub fn shortens(s: &[u8]) -> bool
 // Every rule is 0.
 pub fn no_rule(s: &[u8]) -> bool
     requires { Trailed s.now }
-    ensures { result ≡ paper.noRule (rules_of s.now) }
+    ensures { result ≡ paper.no_rule (rules_of s.now) }
 {
     if new_byte(s, 0) != 0 {
         return false;

@@ -1,3 +1,5 @@
+#![tactic(auto)]
+
 // The solver: any sheet, any budget, any buffers.
 ghost use Rattle.std.specs.Prelude.{◌≡◌, ◌≤◌, ◌<◌, length, take};
 ghost use Rattle.paper.specs.Trailer.{longest};
@@ -11,7 +13,7 @@ ghost use Rattle.search.specs.Tells.{Tells, said_by};
 ghost use Rattle.solver.specs.Reported.{solved};
 
 // 0 with the word's length and its trials, 1 with the full count, 2 with the budget; or a fault.
-#[derive(Drop)]
+#[derive(Clone, Copy)]
 pub enum Solved {
     Found(usize, u64),
     None(u64),

@@ -1,3 +1,5 @@
+#![tactic(auto)]
+
 // The checking program: a sheet on standard input, its answer in one line on standard output.
 use libc::{STDIN_FILENO, STDOUT_FILENO};
 

@@ -1,3 +1,5 @@
+#![tactic(auto)]
+
 // The calls of the solver, the maker, the gate and the moves between editions as C makes them: a slice is a pointer and a length, an answer a number or a struct by value.
 ghost use Rattle.std.specs.Prelude.{◌≡◌, ◌<◌};
 ghost use Rattle.paper.specs.Editions.{ToSecond, ToFirst};

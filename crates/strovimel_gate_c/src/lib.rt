@@ -1,3 +1,5 @@
+#![tactic(auto)]
+
 // The gate as C calls it: a slice is a pointer and a length. It brings in nothing of sheets or solving.
 ghost use Rattle.paper.specs.Promises.{Gates};
 

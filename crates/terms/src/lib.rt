@@ -1,3 +1,5 @@
+#![tactic(auto)]
+
 // A term's places at a length, under a prefix.
 pub mod meets;
 
@@ -17,7 +19,7 @@ use sheet_contents::{Part, Run};
 use sheet_trailer::Table;
 
 // Up to 60 places, each a byte that is known or 256.
-#[derive(Drop)]
+#[derive(Clone, Copy)]
 pub struct Places {
     pub of: [u16; 60],
     pub len: usize,

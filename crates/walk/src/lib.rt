@@ -1,3 +1,5 @@
+#![tactic(auto)]
+
 // The walk over prefixes. A letter that no constraint tells from an earlier one in its place is not walked:
 // the trials of that one are remembered and counted again.
 ghost use Rattle.std.specs.Prelude.{◌≡◌, true, false, ℕ, ◌+◌, ◌*◌, ◌-◌, ◌<◌, ◌≤◌, length, get_or};

@@ -1,10 +1,12 @@
+#![tactic(auto)]
+
 // The walk's state: its letters, its prefix by value, and its moves, each handing the state back.
 ghost use Rattle.std.specs.Prelude.{◌≡◌, ◌+◌, ◌<◌, ◌≤◌};
 ghost use Rattle.walk_state.specs.Letters.{has_letter, NoLetter, Joined, FirstFrom};
 ghost use Rattle.walk_state.specs.Moves.{empty_prefix, start_state, longer, ending, shorter, down_of, next_of, back_of, counted_of, passed_of, again_of, last_of, since_of, Marks};
 
 // The letters, a bit for each possible one, in four words.
-#[derive(Drop)]
+#[derive(Clone, Copy)]
 pub struct Letters {
     pub of: [u64; 4],
 }
@@ -47,7 +49,7 @@ impl Letters {
     }
 }
 
-#[derive(Drop)]
+#[derive(Clone, Copy)]
 pub struct Prefix {
     pub bytes: [u8; 60],
     pub len: usize,
@@ -103,7 +105,7 @@ impl Prefix {
     }
 }
 
-#[derive(Drop)]
+#[derive(Clone, Copy)]
 pub struct State {
     pub prefix: Prefix,
     // The trials at which the present letter of each place was begun; at 0, those at which this length was.

@@ -1,3 +1,5 @@
+#![tactic(auto)]
+
 // The lent workspace: a bit for each row (0 to 255) and each span of a term, four words a span.
 // The same words and bits serve for a set of rows (four words) and for a set of rows a row (1,024 words).
 ghost use Rattle.std.specs.Prelude.{◌≡◌, ◌+◌, ◌*◌, ◌≤◌, ◌<◌, length};
