@@ -18,7 +18,7 @@ use borrow.Author.Tests.{eqb-true, lt-ltb, le-ltb}
 use Rattle.paper.specs.Answers.{zeroed}
 use Rattle.workspace.specs.Bits.{bit, bit_at, set_bit, four_at, word_at, wiped, copied, joined, none_at}
 use Rattle.workspace.proofs.Spans.{lt-or-le}
-use Rattle.workspace.proofs.Words.{bit_lt, bit_zero, bit_or, mark_same, mark_other, or_none_left, or_none_right, of_four, first, length_four, four_word, four_other, drop_four}
+use Rattle.workspace.proofs.Words.{bit_lt, bit_zero, bit_or_lem, mark_same, mark_other, or_none_left, or_none_right, of_four, first, length_four, four_word, four_other, drop_four}
 
 -- ---- a bit in its word
 
@@ -165,7 +165,7 @@ module _ (ws : List ℕ) (s : ℕ) (from : List ℕ) (q : ℕ) where
     where
       low : r < 256 → bit_at (joined ws s from q) s r ≡ (bit_at ws s r || bit_at from q r)
       low h =
-          rw (bit_in (joined ws s from q) s r h, bit_in ws s r h, bit_in from q r h, joined_word room (r / 64) (omega arith), bit_or (word_at ws s (r / 64)) (word_at from q (r / 64)) (r % 64))
+          rw (bit_in (joined ws s from q) s r h, bit_in ws s r h, bit_in from q r h, joined_word room (r / 64) (omega arith), bit_or_lem (word_at ws s (r / 64)) (word_at from q (r / 64)) (r % 64))
           (or_bit _ _ (bit_lt _ (r % 64)) (bit_lt _ (r % 64)))
 
   pub joined_apart : (t r : ℕ) → t ≢ s → bit_at (joined ws s from q) t r ≡ bit_at ws t r

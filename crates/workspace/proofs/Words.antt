@@ -23,9 +23,9 @@ pub bit_zero : (k : ℕ) → bit 0 k ≡ 0
 unfolding bit
 bit_zero k = rw (zero-div (2 ^ k))
 
-pub bit_or : (x y k : ℕ) → bit (bit_or x y) k ≡ bit_or (bit x k) (bit y k)
+pub bit_or_lem : (x y k : ℕ) → bit (bit_or x y) k ≡ bit_or (bit x k) (bit y k)
 unfolding bit
-bit_or x y k = ap (λ (z : ℕ). z % 2) (or_shr x y k) ∙ or_mod (x / 2 ^ k) (y / 2 ^ k) 1
+bit_or_lem x y k = ap (λ (z : ℕ). z % 2) (or_shr x y k) ∙ or_mod (x / 2 ^ k) (y / 2 ^ k) 1
 
 mask_same : (k : ℕ) → bit (2 ^ k) k ≡ 1
 unfolding bit
@@ -60,10 +60,10 @@ none_above x i j e h =
     ap (λ (z : ℕ). z % 2) (div-eq_of_lt u)
 
 pub mark_same : (x k : ℕ) → bit (bit_or x (2 ^ k)) k ≡ 1
-mark_same x k = bit_or x (2 ^ k) k ∙ ap (bit_or (bit x k)) (mask_same k) ∙ or_one (bit x k) (bit_lt x k)
+mark_same x k = bit_or_lem x (2 ^ k) k ∙ ap (bit_or (bit x k)) (mask_same k) ∙ or_one (bit x k) (bit_lt x k)
 
 pub mark_other : (x j k : ℕ) → j ≢ k → bit (bit_or x (2 ^ k)) j ≡ bit x j
-mark_other x j k ne = bit_or x (2 ^ k) j ∙ ap (bit_or (bit x j)) (mask_other j k ne) ∙ or_zero_r (bit x j)
+mark_other x j k ne = bit_or_lem x (2 ^ k) j ∙ ap (bit_or (bit x j)) (mask_other j k ne) ∙ or_zero_r (bit x j)
 
 pub or_none_left : (x y : ℕ) → bit_or x y ≡ 0 → x ≡ 0
 or_none_left x y e = omega (arith, or_add_and x y, and_le_r x y)
