@@ -42,7 +42,7 @@ class Names:
         self.loops = entry["loops"]
         self.changed = entry["changed"]
         self.params = entry["params"]
-        self.root = {}
+        self.taken_by = {}  # a helper of the file: the place that it takes
 
     def up(self, place, n):
         for _ in range(n):
@@ -58,7 +58,7 @@ class Names:
             if p in self.arms:
                 name, _, entries = self.arms[p]
                 for new, step, path in sorted(entries, key=lambda e: -len(e[2])):
-                    if path and norm(step) == norm(fields[0]) and [norm(x) for x in path] == [norm(x) for x in fields[1 : 1 + len(path)]]:
+                    if norm(step) == norm(fields[0]) and [norm(x) for x in path] == [norm(x) for x in fields[1 : 1 + len(path)]]:
                         return [name, new], 1 + len(path)
             p = self.parent.get(p)
         return None
@@ -91,6 +91,7 @@ def fix_field(names, nf, callee, rest):
 
 
 WARN = []
+START = ("args", "requires", "ranges", "lifetimes", "auto", "type_inv", "loop", "well_formed")
 
 
 def convert(text, names, places, where, goal=None):
@@ -123,7 +124,10 @@ def convert(text, names, places, where, goal=None):
         out.append(text[at : m.start()])
         at = m.end()
         if not rest:
-            if there == names.root.get(root, there) and there == places[root][1]:
+            helper = re.search(r"(?<![\w.'-])(" + IDENT + r") $", text[: m.start()])
+            if helper and helper.group(1) in names.taken_by:
+                there = names.taken_by[helper.group(1)]
+            if there == places[root][1]:
                 out.append(root)
             elif goal:
                 out.append(f"(goal.at.{goal} {root}).{names.new_place[there]}")
@@ -132,7 +136,10 @@ def convert(text, names, places, where, goal=None):
                 out.append(f"(UP {root}).{names.new_place[there]}")
             continue
         arm = names.arm(there, rest)
-        found = names.find(there, rest[0])
+        found = names.find(there, rest[0]) or names.find(place, rest[0])
+        arm = arm or names.arm(place, rest)
+        if not arm and not found and rest[0] not in START and names.places[there][2] is None:
+            WARN.append(f"{where}: {m.group(0)} is not found")
         if arm:
             out.append(".".join([root] + arm[0] + rest[arm[1]:]))
         elif found:
@@ -141,7 +148,8 @@ def convert(text, names, places, where, goal=None):
         else:
             out.append(".".join([root] + rest))
     out.append(text[at:])
-    return "".join(out)
+    # the test of an `if !x` is known as one of x
+    return re.sub(r"\bnot-(?:true|false) (?:[^\s()]+|\([^()]*\)) (" + IDENT + r"\.if-not-[\w'-]*\.(?:true|false))", r"\1", "".join(out))
 
 
 def declarations(text):
@@ -259,6 +267,10 @@ def convert_function(crate, folder, names, reserve):
         body = re.sub(r"(?<![\w.'])(" + IDENT + r"[₀-₉]?)(?![\w'])", lambda m: to.get(m.group(1), m.group(1)), body)
         loop_names[la] = (kind, new)
         invariants.append((b["notes"], f"{kind}-{new}", b["unfolding"], body))
+    for b in blocks:
+        m = b["name"] and re.search(r"\((" + IDENT + r") : tie\.(" + IDENT + r")([^()]*)\)", b["sig"])
+        if m and norm(m.group(2)) in names.places:
+            names.taken_by[b["name"]] = norm(m.group(2))
     goal_of = {}
     for b in blocks:
         m = b["name"] and re.match(r"tie\.Need-(\S+)", b["sig"])

@@ -14,9 +14,9 @@ use Rattle.workspace.proofs.Spans.{lt-or-le}
 use Rattle.workspace.proofs.Words.{none_above, bit_lt}
 use Rattle.workspace.proofs.Bits.{bit_in}
 
-bit_and : (x y k : ℕ) → bit (bit_and x y) k ≡ bit_and (bit x k) (bit y k)
+bit_and_lem : (x y k : ℕ) → bit (bit_and x y) k ≡ bit_and (bit x k) (bit y k)
 unfolding bit
-bit_and x y k = ap (λ (z : ℕ). z % 2) (and_shr x y k) ∙ and_mod (x / 2 ^ k) (y / 2 ^ k) 1
+bit_and_lem x y k = ap (λ (z : ℕ). z % 2) (and_shr x y k) ∙ and_mod (x / 2 ^ k) (y / 2 ^ k) 1
 
 both_bits : (x y : ℕ) → x < 2 → y < 2 → eqb (bit_and x y) 1 ≡ (eqb x 1 && eqb y 1)
 both_bits zero zero hx hy = refl
@@ -34,7 +34,7 @@ common ws a b w = bit_and (word_at ws a w) (word_at ws b w)
 module _ (ws : List ℕ) (a b : ℕ) where
   both_is : (k : ℕ) → k < 256 → in_both ws a b k ≡ eqb (bit (common ws a b (k / 64)) (k % 64)) 1
   unfolding in_both
-  both_is k h = rw (bit_in ws a k h, bit_in ws b k h, bit_and _ _ (k % 64)) (sym (both_bits _ _ (bit_lt _ (k % 64)) (bit_lt _ (k % 64))))
+  both_is k h = rw (bit_in ws a k h, bit_in ws b k h, bit_and_lem _ _ (k % 64)) (sym (both_bits _ _ (bit_lt _ (k % 64)) (bit_lt _ (k % 64))))
 
   -- the lowest bit of the common word, shifted
   low_bit : (k : ℕ) → bit_and (common ws a b (k / 64) / 2 ^ (k % 64)) 1 ≡ bit (common ws a b (k / 64)) (k % 64)
