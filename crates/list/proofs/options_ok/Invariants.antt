@@ -1,0 +1,18 @@
+use native.Mathlib.Omega.{arith}
+use mathlib.Core.Bool.{true}
+use mathlib.Core.Path.{◌≡◌, sym, ◌∙◌}
+use Prim.Native.Nat.{◌-◌, ◌≤◌}
+use Rattle.list.proofs.Each.{all_more, all_stop}
+use Rattle.list.specs.Read.{option_from}
+use Rattle.paper.proofs.Tests.{all_none}
+use Rattle.paper.specs.Tests.{all_below}
+use Rattle.list.proofs.options_ok.Given as goal
+
+-- the first j options obey
+abbrev pub invariant-loop-j : goal.invariant-loop-j
+invariant-loop-j l =
+    (l.j ≤ l.count) × (all_below l.j (option_from l.list l.text l.m l.o) ≡ true)
+
+abbrev pub decreases-loop-j : goal.decreases-loop-j
+decreases-loop-j l =
+    l.count - l.j

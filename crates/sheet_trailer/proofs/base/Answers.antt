@@ -1,0 +1,7 @@
+use Rattle.paper.specs.Trailer.{base}
+use borrow.Author.Rules.{rules}
+use Rattle.sheet_trailer.proofs.base.Goals as goal
+
+pub returns : goal.returns
+unfolding base
+returns c = rw (← c.edition.ensures.0)

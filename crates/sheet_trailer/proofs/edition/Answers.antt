@@ -1,0 +1,17 @@
+use Rattle.paper.specs.Trailer.{edition}
+use mathlib.Core.Path.{◌≡◌}
+use borrow.Author.Rules.{rules}
+use native.Mathlib.Omega.{arith}
+use Rattle.sheet_trailer.proofs.edition.Goals as goal
+
+pub returns-then-digit-lt48 : goal.returns-then-digit-lt48
+unfolding edition
+returns-then-digit-lt48 c =
+    let h = c.wide-digit.ensures.0 in
+    (omega arith, omega arith)
+
+pub returns : goal.returns
+unfolding edition
+returns c =
+    let h = c.wide-digit.ensures.0 in
+    (omega arith, omega arith)

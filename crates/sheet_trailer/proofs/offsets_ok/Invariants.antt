@@ -1,0 +1,17 @@
+use Prim.Native.Nat.{◌+◌, ◌*◌, ◌-◌, ◌≤◌}
+use mathlib.Core.Bool.{true, false}
+use mathlib.Core.Path.{◌≡◌, refl, sym, ◌∙◌}
+use native.Mathlib.Numerals.{add-one}
+use borrow.Author.Tests.{eq-eqb, ne_eqb}
+use Rattle.paper.specs.Trailer.{size, offset_ok, offsets_ok, offset_of, start_of}
+use Rattle.sheet_trailer.proofs.Tables.{table_most}
+use Rattle.sheet_trailer.proofs.Search.{Sought, start, more, stop, done}
+use native.Mathlib.Omega.{arith}
+use Rattle.sheet_trailer.proofs.offsets_ok.Given as goal
+
+-- each table before t begins where the one before it ends, and table t has to begin at `at`
+abbrev pub invariant-loop-t : goal.invariant-loop-t
+invariant-loop-t l = Sought (offset_ok l.s) 5 l.t × (l.at ≡ start_of l.s l.t) × (l.at ≤ 786420 * l.t)
+
+abbrev pub decreases-loop-t : goal.decreases-loop-t
+decreases-loop-t l = 5 - l.t

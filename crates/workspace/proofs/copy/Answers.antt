@@ -1,0 +1,7 @@
+use borrow.Author.Rules.{rules}
+use Rattle.workspace.specs.Bits.{copied}
+use Rattle.workspace.proofs.copy.Goals as goal
+
+pub returns : goal.returns
+unfolding copied
+returns c = c.put_four.ensures

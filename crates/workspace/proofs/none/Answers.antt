@@ -1,0 +1,8 @@
+use mathlib.Core.Path.{refl}
+use borrow.Author.Rules.{rules}
+use Rattle.workspace.specs.Bits.{none_at}
+use Rattle.workspace.proofs.none.Goals as goal
+
+pub returns : goal.returns
+unfolding none_at
+returns c = refl

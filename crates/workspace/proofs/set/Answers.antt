@@ -1,0 +1,6 @@
+use borrow.Author.Rules.{rules}
+use Rattle.workspace.proofs.Bits.{set_is}
+use Rattle.workspace.proofs.set.Goals as goal
+
+pub returns : goal.returns
+returns c = set_is c.args.ws.now c.args.s c.args.r
