@@ -38,6 +38,7 @@ class Names:
             self.need[o] = (n, self.asked[i] if i < len(self.asked) else None)
         for i, (o, n) in enumerate(self.needs):
             self.need.setdefault(norm(n), self.need[o])
+            self.need.setdefault("overflow_" + o, self.need[o])
         self.arms = {norm(p[0]): a for p, a in zip(entry["places"], entry["arms"]) if a}
         self.loops = entry["loops"]
         self.changed = entry["changed"]
@@ -46,9 +47,7 @@ class Names:
 
     def up(self, place, n):
         for _ in range(n):
-            if place is None:
-                return None
-            place = self.parent.get(place)
+            place = self.parent.get(place) or place
         return place
 
     def arm(self, place, fields):
@@ -75,6 +74,17 @@ class Names:
         return None
 
 
+def lent_to(callee):
+    """The parameters of a function that are lent for writing."""
+    crate, name = callee.split("::")[0], callee.split("::")[-1]
+    for folder, _, files in os.walk(os.path.join("crates", crate, "src")):
+        for f in files:
+            m = re.search(r"fn " + name + r"\b(?:<[^>]*>)?\(([^)]*)\)", open(os.path.join(folder, f), encoding="utf-8").read())
+            if m:
+                return re.findall(r"(\w+)\s*:\s*&mut", m.group(1))
+    return []
+
+
 def fix_field(names, nf, callee, rest):
     """The fields behind a step."""
     if callee and rest and rest[0] == "new":
@@ -85,6 +95,13 @@ def fix_field(names, nf, callee, rest):
         params = names.params.get(callee)
         if i < len(rest) and rest[i] == "0" and params and k < len(params):
             return ["new", params[k]] + rest[i + 1:]
+    if callee and rest[:1] == ["auto"]:
+        lent = lent_to(callee)
+        k = 1
+        while k < len(rest) and rest[k] == "1":
+            k += 1
+        if len(lent) == 1 and k < len(rest) and rest[k] == "0":
+            return ["auto", lent[0]] + rest[k + 1:]
     if callee and rest[:1] == ["ensures"] and len(rest) > 1 and callee in LABELS and rest[1] in LABELS[callee]:
         return ["ensures", LABELS[callee][rest[1]]] + rest[2:]
     return rest
@@ -96,13 +113,18 @@ START = ("args", "requires", "ranges", "lifetimes", "auto", "type_inv", "loop", 
 
 def convert(text, names, places, where, goal=None):
     """Turns every path of a variable in `places` (its name to its old place). `goal`: the answer's, if it is one."""
-    places = {v: (v, p) for v, p in places.items()}
+    places, steps = {v: (v, p) for v, p in places.items()}, {}
     out, at = [], 0
     path = re.compile(r"(?<![\w.'-])(" + IDENT + r")((?:\.(?:\d+|" + IDENT + r"))*)")
     for m in path.finditer(text):
         if m.start() < at:
             continue
         var, fields = m.group(1), [f for f in m.group(2).split(".") if f]
+        if var in steps and fields:
+            out.append(text[at : m.start()])
+            at = m.end()
+            out.append(".".join([var] + fix_field(names, None, steps[var], fields)))
+            continue
         if var not in places:
             continue
         root, place = places[var]
@@ -144,6 +166,8 @@ def convert(text, names, places, where, goal=None):
             out.append(".".join([root] + arm[0] + rest[arm[1]:]))
         elif found:
             nf, callee = found
+            if bound and len(rest) == 1:
+                steps[bound.group(1)] = callee
             out.append(".".join([root, nf] + fix_field(names, nf, callee, rest[1:])))
         else:
             out.append(".".join([root] + rest))

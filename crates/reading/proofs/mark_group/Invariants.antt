@@ -1,0 +1,19 @@
+use borrow.Author.Rules.{rules}
+use lib.ListN.{length}
+use native.Mathlib.Omega.{arith}
+use mathlib.Core.Path.{◌≡◌, refl, sym, ap, ◌∙◌}
+use Prim.Native.Nat.{◌-◌, ◌≤◌}
+use Rattle.reading.proofs.Stages.{turn_none, turn_more}
+use Rattle.list.proofs.ListLaws.{head_first, head_next}
+use Rattle.reading.specs.Marks.{in_turn, mark_head, mark_group}
+use Rattle.paper.specs.Gate.{head_end, head_at}
+use Rattle.reading.proofs.mark_group.Given as goal
+
+-- the heads of the first r rows are marked, and o is where the next one begins
+abbrev pub invariant-loop-r : goal.invariant-loop-r
+invariant-loop-r l =
+    (l.r ≤ l.rows) × (l.o ≡ head_at l.list l.m l.r) × (l.work ≡ in_turn l.r (mark_head l.list l.text l.word l.m) l.initial.work) × (length l.work ≡ length l.initial.work)
+
+abbrev pub decreases-loop-r : goal.decreases-loop-r
+decreases-loop-r l =
+    l.rows - l.r

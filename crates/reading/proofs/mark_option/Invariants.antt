@@ -1,0 +1,18 @@
+use borrow.Author.Rules.{rules}
+use lib.ListN.{length}
+use native.Mathlib.Omega.{arith}
+use mathlib.Core.Path.{◌≡◌, refl, sym, ap, ◌∙◌}
+use Prim.Native.Nat.{◌+◌, ◌-◌, ◌≤◌}
+use Rattle.reading.proofs.Stages.{turn_none, turn_more}
+use Rattle.reading.specs.Marks.{in_turn, mark_start, mark_option}
+use Rattle.list.specs.Read.{option_of}
+use Rattle.reading.proofs.mark_option.Given as goal
+
+-- the option is marked at the first i starts
+abbrev pub invariant-loop-i : goal.invariant-loop-i
+invariant-loop-i l =
+    (l.i + l.m ≤ length l.word + 1) × (l.work ≡ in_turn l.i (mark_start l.text l.word l.m l.r (option_of l.x)) l.initial.work) × (length l.work ≡ length l.initial.work)
+
+abbrev pub decreases-loop-i : goal.decreases-loop-i
+decreases-loop-i l =
+    length l.word + 1 - l.m - l.i

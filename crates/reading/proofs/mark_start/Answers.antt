@@ -1,0 +1,14 @@
+use borrow.Author.Tests.{not-true, not-false}
+use Rattle.reading.specs.Marks.{mark_start}
+use borrow.Author.Rules.{rules}
+use Rattle.reading.proofs.mark_start.Goals as goal
+
+pub returns-then-not-holds : goal.returns-then-not-holds
+unfolding mark_start
+returns-then-not-holds c =
+    rw (← c.holds.ensures, c.if-not-holds.true)
+
+pub returns : goal.returns
+unfolding mark_start
+returns c =
+    rw (← c.holds.ensures, c.if-not-holds.false, ← c.span-s.ensures.0) c.set.ensures

@@ -1,0 +1,12 @@
+use borrow.Author.Tests.{ne_eqb}
+use borrow.Author.Rules.{rules}
+use Rattle.paper.specs.Records.{row_ok}
+use Rattle.sheet_records.proofs.rules.row_ok.Goals as goal
+
+pub returns-then-s-o-ne0 : goal.returns-then-s-o-ne0
+unfolding row_ok
+returns-then-s-o-ne0 c = rw (ne_eqb _ _ c.if-s-o-ne0.true)
+
+pub returns : goal.returns
+unfolding row_ok
+returns c = rw c.if-s-o-ne0.false cc

@@ -1,0 +1,5 @@
+use borrow.Author.Rules.{rules}
+use Rattle.walk_state.proofs.State.back.Goals as goal
+
+pub returns : goal.returns
+returns c = cc
