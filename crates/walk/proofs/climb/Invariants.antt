@@ -1,0 +1,16 @@
+use Prim.Native.Nat.{◌<◌, ◌+◌}
+use native.Mathlib.Omega.{arith}
+use borrow.Author.Rules.{rules}
+use Rattle.walk_state.specs.Letters.{has_letter, FirstFrom}
+use Rattle.walk_state.specs.Moves.{last_of}
+use Rattle.walk.proofs.Frames.{frame_start}
+use Rattle.walk.proofs.Climbs.{Climbing, climb_start, climb_note, climb_skip, climb_over, climb_next, climb_back, climb_end, to_go, skip_less, back_less}
+use Rattle.walk.proofs.climb.Given as goal
+
+-- `climb` meets its contract. The invariant is `Climbing`; the measure, the places left and the letters left in the last of them.
+-- the prefix at hand and its extensions are done, those of the alike letters passed over too, within the budget
+abbrev pub invariant-loop-q : goal.invariant-loop-q
+invariant-loop-q l = Climbing (has_letter l.letters.of) l.slot l.budget l.initial.q l.initial.counts l.q l.counts
+
+abbrev pub decreases-loop-q : goal.decreases-loop-q
+decreases-loop-q l = to_go l.q
