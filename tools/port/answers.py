@@ -135,7 +135,7 @@ def convert(text, names, places, where, goal=None):
         if there is None:
             WARN.append(f"{where}: {m.group(0)} goes above the start")
             continue
-        rest = fields[n:]
+        rest = [{"pre": "requires", "left": "false", "taken": "true"}.get(f, f) for f in fields[n:]]
         # a place that a let binds: its names are `root`'s own now
         bound = re.search(r"let (" + IDENT + r") = $", text[: m.start()])
         if not rest and bound and re.match(r"\s+in\s", text[m.end():]):

@@ -1,0 +1,56 @@
+use Prim.Native.Nat.{◌+◌, ◌*◌, ◌≤◌}
+use mathlib.Core.Path.{◌≡◌, sym}
+use mathlib.Core.List.{◌++◌}
+use native.Mathlib.Omega.{arith}
+use borrow.Author.Rules.{rules}
+use lib.ListN.{length, take}
+use lib.Seq.{length-take-le}
+use Rattle.paper.specs.Trailer.{base}
+use Rattle.paper.specs.Editions.{zeros, in_edition}
+use Rattle.numbers.proofs.Stores.{put_more, put_same, put_written}
+use Rattle.editions.specs.Puts.{ending}
+use Rattle.editions.proofs.Moved.{moved_length, zeros_length}
+use Rattle.editions.proofs.put_sheet.Goals.{After-base-at}
+use Rattle.editions.proofs.put_sheet.Goals as goal
+
+-- what stands before the new bytes is in the sheet
+within : (c : After-base-at) → length (take (c.base-at.result + 24) c.args.s.now) ≡ c.base-at.result + 24
+unfolding base
+within c = length-take-le _ _ (omega (arith, c.base-at.ensures, c.requires.0.trailed))
+
+-- and the sheet moved in the space
+room : (c : After-base-at) → c.base-at.result + (28 + 4 * c.args.e) ≤ length c.args.out.now
+room c = omega (arith, c.base-at.ensures, c.requires.3, moved_length c.args.s.now c.requires.0.trailed c.args.e c.requires.1 c.requires.2)
+
+small : (c : After-base-at) → c.base-at.result ≤ 65536
+unfolding base
+small c = omega (arith, c.base-at.ensures, c.requires.0.small)
+
+pub overflow_add-at : goal.overflow_add-at
+overflow_add-at c = omega (arith, small (goal.at.overflow_add-at c).After-base-at)
+
+pub slice_bounds-put_bytes-end : goal.slice_bounds-put_bytes-end
+slice_bounds-put_bytes-end c = sym (within (goal.at.slice_bounds-put_bytes-end c).After-base-at)
+
+pub put_bytes-p-requires : goal.put_bytes-p-requires
+put_bytes-p-requires c = omega (arith, within (goal.at.put_bytes-p-requires c).After-base-at, room (goal.at.put_bytes-p-requires c).After-base-at)
+
+pub put_zeros-z-requires : goal.put_zeros-z-requires
+put_zeros-z-requires c = omega (arith, c.put_bytes-p.ensures.stop, c.put_bytes-p.auto, within (goal.at.put_zeros-z-requires c).After-base-at, room (goal.at.put_zeros-z-requires c).After-base-at)
+
+pub overflow_add-at-2 : goal.overflow_add-at-2
+overflow_add-at-2 c = omega (arith, small (goal.at.overflow_add-at-2 c).After-base-at)
+
+pub put_ending-requires : goal.put_ending-requires
+put_ending-requires c =
+    let a = c.args in
+    let p = c.requires in
+    (p.2, omega (arith, c.put_bytes-p.ensures.stop, c.put_bytes-p.auto, c.put_zeros-z.ensures.stop, c.put_zeros-z.auto, zeros_length a.e p.1 p.2, within (goal.at.put_ending-requires c).After-base-at, room (goal.at.put_ending-requires c).After-base-at))
+
+pub returns : goal.returns
+unfolding in_edition
+returns c =
+    let a = c.args in
+    let at = c.base-at in
+    let same : take (at.result + 24) a.s.now ++ (zeros a.e ++ ending (at.result + (28 + 4 * a.e)) a.e) ≡ in_edition a.e a.s.now = rw at.ensures in
+    put_written c.requires.3 (put_same same (put_more c.put_bytes-p.ensures (put_more c.put_zeros-z.ensures c.put_ending.ensures)))
