@@ -374,7 +374,7 @@ def convert_function(crate, folder, names, reserve):
                 head.remove("κs")
             var = head[0] if head else "c"
             body = words(convert(body, names, {var: place}, where, new))
-            one = ([], new, [], [(new + " " + " ".join(head), body)])
+            one = ([], new, spec["unfolding"], [(new + " " + " ".join(head), body)])
             if TRIVIAL.match(body.strip()):
                 spare[new] = f"{new} {' '.join(head)} = {body}"
                 continue

@@ -1,0 +1,24 @@
+use borrow.Author.Rules.{rules}
+use Rattle.paper.specs.Sheet.{grammar_of}
+use Rattle.maker_options.proofs.Turns.{job_few, job_rows}
+use Rattle.maker_options.proofs.Entries.{ready_is}
+use Rattle.maker_options.proofs.ready.prepare.Goals as goal
+
+pub reach-requires : goal.reach-requires
+reach-requires c = let few = job_few c.requires.0 in search rules
+
+pub turn-requires : goal.turn-requires
+turn-requires c = let few = job_few c.requires.0 in search rules
+
+pub returns : goal.returns
+returns c =
+    let a = c.args in
+    let p = c.requires.0 in
+    let rows = job_rows p in
+    let reach = c.reach.ensures in
+    record {
+      job = p;
+      ready =
+          ready_is (grammar_of a.s.now) a.j.n a.j.rows.count _ _ _ _ _ rows (job_few p) c.nulls.ensures reach c.turn.ensures
+          c.copy.ensures c.give_all.ensures;
+    }

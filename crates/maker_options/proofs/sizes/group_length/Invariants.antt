@@ -1,0 +1,16 @@
+use Prim.Native.Nat.{ℕ, ◌+◌, ◌*◌, ◌≤◌, ◌-◌}
+use mathlib.Core.Path.{◌≡◌, ap, ◌∙◌}
+use native.Mathlib.Omega.{arith}
+use lib.ListN.{length}
+use Rattle.paper.specs.Tests.{gather}
+use Rattle.paper.specs.Sheet.{grammar_of}
+use Rattle.paper.specs.Cuts.{entry, group}
+use Rattle.maker_options.proofs.Turns.{job_few, entries_none, count_room, count_more, job_rows, rows_end}
+use Rattle.maker_options.proofs.sizes.group_length.Given as goal
+
+-- the entries of the rows below r are counted
+abbrev pub invariant-loop-r : goal.invariant-loop-r
+invariant-loop-r l = (l.r ≤ l.j.rows.count) × (l.total ≡ length (gather 0 l.r (entry (grammar_of l.s) l.m)))
+
+abbrev pub decreases-loop-r : goal.decreases-loop-r
+decreases-loop-r l = l.j.rows.count - l.r

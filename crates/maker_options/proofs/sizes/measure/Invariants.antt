@@ -1,0 +1,17 @@
+use borrow.Author.Rules.{rules}
+use Prim.Native.Nat.{ℕ, ◌+◌, ◌≤◌, ◌-◌}
+use mathlib.Core.Path.{◌≡◌, ap, ◌∙◌, subst}
+use native.Mathlib.Omega.{arith}
+use lib.ListN.{length, length-set}
+use Rattle.paper.specs.Sheet.{grammar_of}
+use Rattle.paper.specs.Cuts.{groups}
+use Rattle.maker_options.specs.Prepared.{Offsets}
+use Rattle.maker_options.proofs.Turns.{groups_none, groups_more, groups_inside, groups_bound, offset_more}
+use Rattle.maker_options.proofs.sizes.measure.Given as goal
+
+-- the groups below m are counted, and each one's start is noted
+abbrev pub invariant-loop-m : goal.invariant-loop-m
+invariant-loop-m l = (l.m ≤ l.j.n + 1) × (l.total ≡ length (groups (grammar_of l.s) l.m)) × Offsets (grammar_of l.s) l.m l.offsets × (length l.offsets ≡ length l.initial.offsets)
+
+abbrev pub decreases-loop-m : goal.decreases-loop-m
+decreases-loop-m l = l.j.n + 1 - l.m
