@@ -1,0 +1,18 @@
+use mathlib.Core.Path.{◌≡◌, sym, ◌∙◌, subst}
+use Prim.Native.Nat.{ℕ, ◌≤◌, ◌<◌, ◌+◌, ◌-◌}
+use native.Mathlib.Omega.{arith}
+use borrow.Author.Rules.{rules}
+use Rattle.workspace.specs.Spans.{span_at}
+use Rattle.workspace.proofs.Spans.{span_lt}
+use Rattle.chart_cells.specs.Steps.{Adds, parted}
+use Rattle.chart_cells.proofs.Adding.{adds_none}
+use Rattle.chart_cells.proofs.Splitting.{left_next, span_from, right_is, left_apart, parted_none, split_turn, no_pairs}
+use Rattle.chart_cells.proofs.splits.Given as goal
+
+-- `splits` meets its contract. The loop's invariant: the splits before e are done, and `left` is the span that ends there.
+-- the rows of the splits before e are added, and `left` is the span from i to e
+abbrev pub invariant-loop-e : goal.invariant-loop-e
+invariant-loop-e l = (l.i < l.e) × (l.e ≤ l.i + l.m) × (l.left ≡ span_at l.i (l.e - l.i)) × Adds l.sp (parted l.lay l.initial.work l.i l.m (l.e - l.i - 1)) l.initial.work l.work
+
+abbrev pub decreases-loop-e : goal.decreases-loop-e
+decreases-loop-e l = l.i + l.m - l.e

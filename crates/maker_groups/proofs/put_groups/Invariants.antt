@@ -1,0 +1,19 @@
+use borrow.Author.Rules.{rules}
+use Prim.Native.Nat.{ℕ, ◌+◌, ◌≤◌, ◌-◌}
+use mathlib.Core.Path.{◌≡◌, ap}
+use native.Mathlib.Omega.{arith}
+use lib.ListN.{length}
+use Rattle.paper.specs.Sheet.{grammar_of}
+use Rattle.paper.specs.Cuts.{group, groups}
+use Rattle.maker_options.proofs.Turns.{groups_inside}
+use Rattle.numbers.specs.Put.{Put}
+use Rattle.numbers.proofs.Stores.{put_same}
+use Rattle.maker_groups.proofs.Writing.{gather_none, gather_turn}
+use Rattle.maker_groups.proofs.put_groups.Given as goal
+
+-- the groups of the lengths below m are written
+abbrev pub invariant-loop-m : goal.invariant-loop-m
+invariant-loop-m l = (l.m ≤ l.j.n + 1) × Put (groups (grammar_of l.s) l.m) 0 l.initial.list l.list l.p × (length l.list ≡ length l.initial.list)
+
+abbrev pub decreases-loop-m : goal.decreases-loop-m
+decreases-loop-m l = l.j.n + 1 - l.m

@@ -1,0 +1,32 @@
+use borrow.Author.Rules.{rules}
+use Prim.Native.Nat.{ℕ, ◌≤◌, ◌-◌}
+use mathlib.Core.Path.{◌≡◌, ap}
+use native.Mathlib.Omega.{arith}
+use lib.ListN.{length}
+use Rattle.paper.specs.Cuts.{splits, all_bytes}
+use Rattle.numbers.specs.Put.{Put}
+use Rattle.numbers.proofs.Stores.{put_same}
+use Rattle.maker_groups.proofs.Writing.{splits_start, splits_turn, splits_size}
+use Rattle.maker_groups.proofs.put_splits.Goals as goal
+
+pub loop-k-init : goal.loop-k-init
+loop-k-init c =
+    let a = c.args in
+    (omega arith, omega arith, splits_start a.a a.b a.o a.list.now, search rules)
+
+pub put_option-p-requires : goal.put_option-p-requires
+put_option-p-requires c =
+    let a = c.args in
+    let l = c.loop-k in
+    omega (arith, splits_size l.k a.a a.b, l.invariant.2.stop)
+
+pub loop-k-preserved : goal.loop-k-preserved
+loop-k-preserved c =
+    let a = c.args in
+    let l = c.loop-k in
+    (omega arith, omega arith, splits_turn l.k a.a a.b l.invariant.0 l.invariant.2 c.put_option-p.ensures, search rules)
+
+pub returns : goal.returns
+returns c =
+    let a = c.args in
+    let e : c.loop-k.k ≡ a.m = omega arith in put_same (ap (λ (z : ℕ). all_bytes (splits z a.a a.b)) e) c.loop-k.invariant.2

@@ -1,0 +1,17 @@
+use borrow.Author.Rules.{rules}
+use Prim.Native.Nat.{ℕ, ◌≤◌, ◌-◌}
+use mathlib.Core.Path.{◌≡◌, ap}
+use native.Mathlib.Omega.{arith}
+use lib.ListN.{length}
+use Rattle.paper.specs.Cuts.{splits, all_bytes}
+use Rattle.numbers.specs.Put.{Put}
+use Rattle.numbers.proofs.Stores.{put_same}
+use Rattle.maker_groups.proofs.Writing.{splits_start, splits_turn, splits_size}
+use Rattle.maker_groups.proofs.put_splits.Given as goal
+
+-- the splits below k are written
+abbrev pub invariant-loop-k : goal.invariant-loop-k
+invariant-loop-k l = (1 ≤ l.k) × (l.k ≤ l.m) × Put (all_bytes (splits l.k l.a l.b)) l.o l.initial.list l.list l.p × (length l.list ≡ length l.initial.list)
+
+abbrev pub decreases-loop-k : goal.decreases-loop-k
+decreases-loop-k l = l.m - l.k

@@ -1,0 +1,19 @@
+use Rattle.paper.specs.Terms.{cut_inside}
+use borrow.Author.Rules.{rules}
+use Rattle.terms.proofs.past.Goals as goal
+
+pub cut_past-requires : goal.cut_past-requires
+cut_past-requires c =
+    let small = rw c.in-Cut.is at c.requires.1 in
+    (c.requires.0, small.0, small.1)
+
+pub returns-in-Const : goal.returns-in-Const
+unfolding cut_inside
+returns-in-Const c = rw c.in-Const.is
+
+pub returns-in-All : goal.returns-in-All
+unfolding cut_inside
+returns-in-All c = rw c.in-All.is
+
+pub returns-in-Cut : goal.returns-in-Cut
+returns-in-Cut c = rw c.in-Cut.is c.cut_past.ensures

@@ -1,0 +1,14 @@
+use Prim.Native.Nat.{◌-◌}
+use Rattle.paper.specs.Terms.{All}
+use Rattle.sheet_contents.specs.Read.{as_run}
+use Rattle.terms.proofs.Showing.{blank}
+use Rattle.terms.proofs.Joining.{Joined, join_start, next_room, join_more, join_end}
+use native.Mathlib.Omega.{arith}
+use Rattle.terms.proofs.term.Given as goal
+
+-- p has the places of the first i parts
+abbrev pub invariant-loop-i : goal.invariant-loop-i
+invariant-loop-i l = Joined l.s l.v (as_run l.r) l.i l.p
+
+abbrev pub decreases-loop-i : goal.decreases-loop-i
+decreases-loop-i l = l.r.count - l.i
