@@ -1,0 +1,19 @@
+use Prim.Native.Nat.{ℕ, ◌≤◌, ◌-◌}
+use mathlib.Core.Path.{sym, ap, ◌∙◌, subst}
+use Rattle.paper.specs.Sheet.{grammar_of}
+use Rattle.sheet.proofs.Rows.{rows_few}
+use Rattle.chart_cells.specs.Steps.{Adds}
+use Rattle.chart_cells.proofs.Adding.{adds_none}
+use Rattle.chart.specs.Cells.{holding, among}
+use Rattle.chart.proofs.Owning.{among_none, among_turn}
+use Rattle.chart.proofs.Rows.{no_holding}
+use borrow.Author.Rules.{rules}
+use native.Mathlib.Omega.{arith}
+use Rattle.chart.proofs.singles.ranges.Given as goal
+
+-- the ranges among the rows below q are in
+abbrev pub invariant-loop-q : goal.invariant-loop-q
+invariant-loop-q l = (l.q ≤ l.rows.count) × Adds l.sp (among (grammar_of l.s) (holding l.x) l.q) l.initial.work l.work
+
+abbrev pub decreases-loop-q : goal.decreases-loop-q
+decreases-loop-q l = l.rows.count - l.q

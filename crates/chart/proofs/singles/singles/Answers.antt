@@ -1,0 +1,25 @@
+use Rattle.sheet.proofs.Rows.{rows_all}
+use Rattle.chart_cells.proofs.Adding.{adds_none, adds_same, adds_joined}
+use Rattle.chart.proofs.Owning.{long_range}
+use Rattle.chart.proofs.Rows.{known_single, unknown_single}
+use borrow.Author.Rules.{rules}
+use native.Mathlib.Omega.{arith}
+use Rattle.chart.proofs.singles.singles.Goals as goal
+
+pub returns-then-m-ne1 : goal.returns-then-m-ne1
+returns-then-m-ne1 c = adds_none _ _ _ (λ r. long_range _ _ _ _ r c.if-m-ne1.true)
+
+pub overflow_cast-x : goal.overflow_cast-x
+overflow_cast-x c = omega (arith, c.shared_slice_known-4-1.given c.args.i)
+
+pub returns-then-x-lt256 : goal.returns-then-x-lt256
+returns-then-x-lt256 c =
+    let p = c.requires in
+    adds_same _ _ _ _ _ c.ranges-then-x-lt256.ensures (λ r h. known_single _ _ _ (rows_all p.0.table) _ _ c.if-m-ne1.false (omega arith) c.if-x-lt256.true r)
+
+pub returns : goal.returns
+returns c =
+    let a = c.args in
+    let p = c.requires in
+    rw c.join.ensures
+    (adds_same _ _ _ _ _ (adds_joined a.work.now a.sp p.2 a.lay.now 257 (omega (arith, p.0.lent.room))) (λ r h. unknown_single _ _ _ p.0.lent.ground _ _ c.if-m-ne1.false (omega arith) c.if-x-lt256.false r h))
