@@ -193,6 +193,8 @@ def declarations(text):
                 cur = None
             elif notes and not blocks and not uses:
                 pass
+        elif line[0] in ")]}" and cur is not None and cur["clauses"]:
+            cur["clauses"][-1] += "\n" + line
         elif line[0] != " ":
             m = re.match(r"((?:pub |abbrev |unfoldable )*)(" + IDENT + r") : (.*)", line)
             if m and not line.startswith("unfolding"):
@@ -243,10 +245,11 @@ def arguments(text):
 
 def split_clause(name, clause):
     """`name a b = body`: the patterns and the body."""
-    m = re.match(re.escape(name) + r"((?:[^=]|=(?!\s))*?)\s=\s(.*)", clause, re.S) or re.match(re.escape(name) + r"((?:[^=])*?)\s=()\n?(.*)", clause, re.S)
-    head = m.group(1).split()
-    body = clause[clause.index(" =", len(name)) + 2:]
-    return head, body.lstrip(" ") if not body.startswith("\n") else body
+    m = re.match(re.escape(name) + r"(.*?) =(?=\s)", clause, re.S)
+    if not m:
+        sys.exit(f"answers: not a clause of {name}: {clause[:120]}")
+    body = clause[m.end():]
+    return m.group(1).split(), body if body.startswith("\n") else body.lstrip(" ")
 
 
 def convert_function(crate, folder, names, reserve):
