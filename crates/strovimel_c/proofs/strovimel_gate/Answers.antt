@@ -1,0 +1,10 @@
+use mathlib.Core.Path.{sym, ap, ◌∙◌}
+use Rattle.paper.specs.Answers.{gate_leaves}
+use borrow.Author.Rules.{rules}
+use Rattle.strovimel_c.proofs.strovimel_gate.Goals as goal
+
+pub returns : goal.returns
+returns c =
+    let g = c.gate in
+    let work = c.args.work.now in
+    record { said = c.number.ensures ∙ g.ensures.said; left = g.ensures.left ∙ ap (λ k. gate_leaves k work) (sym c.number.ensures) }

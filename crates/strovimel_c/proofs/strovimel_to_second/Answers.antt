@@ -1,0 +1,18 @@
+use Prim.Native.Nat.{◌<◌}
+use mathlib.Core.Path.{sym, ap, subst, ◌∙◌}
+use Rattle.paper.specs.Answers.{WriteReport}
+use Rattle.paper.specs.Editions.{ToSecond}
+use Rattle.sheet.specs.Told.{reported}
+use Rattle.editions.proofs.Coincide.{moves}
+use Rattle.strovimel_c.specs.Structs.{made_of}
+use Rattle.strovimel_c.proofs.Fits.{sheet_fits}
+use borrow.Author.Rules.{rules}
+use Rattle.strovimel_c.proofs.strovimel_to_second.Goals as goal
+
+pub tell_made-requires : goal.tell_made-requires
+tell_made-requires c = subst (λ (r : WriteReport). r.length < 4294967296) (sym (ap reported c.to_second.ensures.said ∙ moves ToSecond _ _)) (sheet_fits ToSecond _ _)
+
+pub returns : goal.returns
+returns c =
+    let p = c.to_second.ensures in
+    record { said = ap made_of (c.tell_made.ensures ∙ ap reported p.said ∙ moves ToSecond _ _); wrote = p.wrote }
