@@ -1,28 +1,26 @@
 -- What the rows of an accepted sheet give to a cell.
 -- Assumes nothing.
-use Prim.Native.Nat.{ℕ, ◌+◌, ◌*◌, ◌-◌, ◌/◌, ◌%◌, ◌^◌, ◌≤◌, ◌<◌}
+use Prim.Native.Nat.{ℕ, ◌+◌, ◌-◌, ◌≤◌, ◌<◌}
 use mathlib.Core.Path.{◌≡◌, refl, sym, ◌∙◌}
-use mathlib.Core.Bool.{Bool, true, false, true≢false}
+use mathlib.Core.Bool.{true, false, true≢false}
 use mathlib.Core.Logic.{◌⊎◌, inl, inr}
 use mathlib.Core.List.{List}
 use native.Mathlib.Omega.{arith}
-use lib.Bits.{bit_and}
 use lib.Dec.{eqb}
 use lib.ListN.{length, get_or, take, drop, length-drop}
 use lib.Seq.{length-take-le}
 use borrow.Author.Tests.{eqb-false}
-use Rattle.paper.specs.Tests.{all_below}
 use Rattle.paper.specs.Trailer.{count_of}
 use Rattle.paper.specs.Rows.{row, stretch}
 use Rattle.paper.specs.Decide.{Pattern, fits}
 use Rattle.paper.specs.Sheet.{sheet_of, grammar_of, text_of}
-use Rattle.paper.proofs.Tests.{all_elim, and_left, and_right, true_or_false}
+use Rattle.paper.proofs.Tests.{and_left, and_right, true_or_false}
 use Rattle.sheet.specs.Good.{Good}
 use Rattle.sheet.proofs.Contents.{text_length}
 use Rattle.workspace.specs.Bits.{bit, bit_at, none_at}
-use Rattle.workspace.proofs.Bits.{test_is, none_bit}
+use Rattle.workspace.proofs.Bits.{none_bit}
 use Rattle.groundwork.specs.Ground.{Ground, lengths_at}
-use Rattle.chart.specs.Cells.{allowed, holding, no_range, ranged, fitting, among, passing, can_hold, can_hold_all}
+use Rattle.chart.specs.Cells.{allowed, holding, no_range, ranged, fitting, among, passing, can_hold_all}
 use Rattle.chart.proofs.Owning.{among_no, among_all, letter_held, no_holds, known_range, letter_ranges, text_held, no_text}
 
 -- ---- a part of the text

@@ -1,9 +1,9 @@
 -- A cell: what each row does by itself with the m places from i on, by the row's kind; and the table as it fills.
-use Rattle.std.specs.Prelude.{ℕ, ◌+◌, ◌/◌, ◌%◌, ◌<◌, ◌≤◌, ◌≡◌, Bool, false, cond, ◌&&◌, List, eqb, ltb, length, get_or}
+use Rattle.std.specs.Prelude.{ℕ, ◌+◌, ◌<◌, ◌≤◌, ◌≡◌, Bool, false, cond, ◌&&◌, List, eqb, ltb, length, get_or}
 use Rattle.paper.specs.Tests.{all_below}
 use Rattle.paper.specs.Rows.{Row, Empty, Range, Text, Alt, Seq, Star, Grammar, row, stretch}
 use Rattle.paper.specs.Decide.{Pattern, Test, fits, some_in, split, accepts}
-use Rattle.paper.specs.Sheet.{sheet_of, grammar_of, letter}
+use Rattle.paper.specs.Sheet.{sheet_of, grammar_of}
 use Rattle.paper.specs.Opens.{pattern}
 use Rattle.sheet_trailer.specs.declared.Table.{Table}
 use Rattle.sheet_trailer.specs.Tables.{TableOf}

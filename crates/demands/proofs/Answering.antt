@@ -9,7 +9,7 @@ use Rattle.paper.specs.Sheet.{Sheet}
 use Rattle.paper.specs.Satisfy.{Satisfies}
 use Rattle.paper.specs.Order.{FirstOf}
 use Rattle.paper.specs.Walk.{Walked, found, none, count}
-use Rattle.paper.specs.Answers.{Said, Found, None, Spent, report_of, out_after, walk_of, whole, under}
+use Rattle.paper.specs.Answers.{Found, None, Spent, report_of, out_after, walk_of, whole, under}
 use Rattle.paper.proofs.Budget.{under_cases}
 use Rattle.paper.proofs.Meaning.{walk_right}
 use Rattle.demands.specs.Solved.{Answered}

@@ -1,19 +1,19 @@
 -- A constant that a term contains is the case of a constant term: kind 2 comes out as kind 4 with the term of that constant.
 -- Assumes nothing.
-use Prim.Native.Nat.{ℕ, zero, suc, ◌+◌, ◌-◌, ◌<◌, ◌≤◌}
-use mathlib.Core.Path.{◌≡◌, refl, sym, ap, ◌∙◌, fun_ext, subst}
-use mathlib.Core.Bool.{Bool, true, false, cond, not, ◌&&◌, ◌||◌, true≢false}
+use Prim.Native.Nat.{ℕ, zero, suc, ◌+◌, ◌-◌, ◌<◌}
+use mathlib.Core.Path.{◌≡◌, refl, sym, ap, ◌∙◌, fun_ext}
+use mathlib.Core.Bool.{Bool, true, false}
 use mathlib.Core.Logic.{◌↔◌}
 use mathlib.Core.List.{List, [], ◌∷◌, map, map-id, append-nil}
 use native.Mathlib.Omega.{arith}
 use native.Mathlib.Nat.{not-suc-le-zero}
 use lib.ListN.{length, get_or, length-map}
-use Rattle.paper.specs.Tests.{any_below, all_below, any_of, all_of}
+use Rattle.paper.specs.Tests.{any_below, all_below, any_of}
 use Rattle.paper.specs.Rows.{stretch}
 use Rattle.paper.specs.Decide.{fits}
 use Rattle.paper.specs.Terms.{Const, Place, Known, Unknown, piece, term, cut_inside}
 use Rattle.paper.specs.Sheet.{Sheet, Claim, Contains, ContainsTerm, Assertion, Run, parts_of, inside}
-use Rattle.paper.specs.Satisfy.{term_word, Holds, Signed, Met}
+use Rattle.paper.specs.Satisfy.{term_word, Met}
 use Rattle.paper.specs.Open.{term_on}
 use Rattle.paper.specs.Opens.{allows, pattern, meet, meet_from, can_hold, is_unknown, can_fail, can, possible}
 use Rattle.paper.proofs.Tests.{same_test, all_intro, all_elim, any_of_nil, any_of_cons, all_of_nil, all_of_cons, any_none}

@@ -1,7 +1,7 @@
 -- The tests of `Decide` say what they should: row r passes at length m and place i exactly when it derives a word of m bytes that fits there.
 -- Assumes nothing.
 use Prim.Native.Nat.{ℕ, zero, suc, ◌+◌, ◌-◌, ◌≤◌, ◌<◌}
-use mathlib.Core.Path.{◌≡◌, refl, sym, ap, ◌∙◌, subst}
+use mathlib.Core.Path.{◌≡◌, refl, sym, ap, ◌∙◌}
 use mathlib.Core.Bool.{true, false, ◌&&◌, true≢false}
 use mathlib.Core.Logic.{◌↔◌}
 use mathlib.Core.List.{List, [], ◌∷◌, ◌++◌, append-nil}
@@ -9,9 +9,8 @@ use native.Mathlib.Omega.{arith}
 use native.Mathlib.Nat.{not-suc-le-zero, zero-add, add-zero, add-suc, suc-add, add-sub_of_le}
 use lib.Dec.{eqb}
 use lib.ListN.{length, get_or, take, drop, length-append}
-use lib.Seq.{ext_get_or, drop-cons}
+use lib.Seq.{drop-cons}
 use Rattle.paper.proofs.Tests.{any_intro, any_elim, and_intro, and_left, and_right, and_assoc, same_test, eqb_same, same_eqb}
-use Rattle.paper.specs.Compare.{same_byte, Same}
 use Rattle.paper.specs.Rows.{Row, Empty, Range, Text, Alt, Seq, Star, Grammar, row, stretch, Derives, Keeps, Reach}
 use Rattle.paper.specs.Decide.{exactly, some_in, carried, reaches, Pattern, fits, Test, split, own_row, level, up_to, accepts}
 use Rattle.paper.proofs.Comparing.{same_length, same_at, at_same}

@@ -13,7 +13,7 @@ use borrow.Author.Tests.{eqb-false}
 use Rattle.paper.specs.Tests.{first_from, first_bad}
 use Rattle.paper.specs.Trailer.{limit, longest, mark_ok, total_ok, count_ok, lengths_ok, offsets_ok, rules_ok, rules_of, count_of, record_at}
 use Rattle.paper.specs.Sheet.{grammar_of}
-use Rattle.paper.specs.Records.{record_ok, table_ok, bad_record, bad_table, assert_fits, bad_term}
+use Rattle.paper.specs.Records.{record_ok, table_ok, bad_table, assert_fits, bad_term}
 use Rattle.paper.specs.Refusals.{Fault, plain, no_fault, unless, or_else, count_fault, rule_fault, record_fault, term_fault, content_refusal, table_refusal, Takes, refusal, latest}
 use Rattle.paper.specs.Names.{FirstFails, NewByte, FirstRecord, Names}
 use Rattle.paper.specs.Cuts.{cut_list}

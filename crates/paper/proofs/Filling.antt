@@ -1,13 +1,13 @@
 -- Places and the words that fill them: by pattern, in parts, and where every place is known.
 -- Assumes nothing.
 use Prim.Native.Nat.{ℕ, zero, suc, ◌-◌, ◌≤◌, ◌<◌}
-use mathlib.Core.Path.{◌≡◌, refl, sym, ap, ◌∙◌, subst}
+use mathlib.Core.Path.{◌≡◌, refl, sym, ap, ◌∙◌}
 use mathlib.Core.Bool.{Bool, true, ◌&&◌, true≢false}
 use mathlib.Core.Logic.{◌⊎◌, inl, inr}
 use mathlib.Core.List.{List, [], ◌∷◌, ◌++◌, map, map-id, map-append, append-nil, append_assoc}
 use native.Mathlib.Omega.{arith}
 use native.Mathlib.Nat.{not-suc-le-zero}
-use lib.ListN.{length, get_or, take, drop, replicate, length-append, get_or-map}
+use lib.ListN.{length, get_or, take, drop, replicate, length-append}
 use Rattle.paper.specs.Tests.{any_of}
 use Rattle.paper.specs.Rows.{stretch}
 use Rattle.paper.specs.Compare.{same_byte, Same}
@@ -18,7 +18,7 @@ use Rattle.paper.specs.Satisfy.{term_word, Letters}
 use Rattle.paper.specs.Open.{term_on, Fills, SomeUnknown}
 use Rattle.paper.specs.Opens.{allows, pattern, is_unknown}
 use Rattle.paper.proofs.Comparing.{byte_refl}
-use Rattle.paper.proofs.Tests.{and_intro, and_left, and_right, eqb_same, same_eqb, or_right, any_of_nil, any_of_cons, any_of_append}
+use Rattle.paper.proofs.Tests.{and_intro, and_left, and_right, eqb_same, or_right, any_of_nil, any_of_cons, any_of_append}
 
 -- ---- known places
 

@@ -1,8 +1,8 @@
 -- The tests `nullable`, `carried` and `reaches` say what they should: a row derives the empty word; steps that keep the length lead to a row.
 -- Assumes nothing.
-use Prim.Native.Nat.{ℕ, zero, suc, ◌+◌, ◌≤◌, ◌<◌}
+use Prim.Native.Nat.{ℕ, zero, suc, ◌≤◌, ◌<◌}
 use mathlib.Core.Path.{◌≡◌, refl, sym, ap, ◌∙◌, subst}
-use mathlib.Core.Bool.{Bool, true, false, ◌&&◌, ◌||◌, true≢false}
+use mathlib.Core.Bool.{Bool, true, ◌&&◌, ◌||◌, true≢false}
 use mathlib.Core.Logic.{◌↔◌, ◌⊎◌, inl, inr}
 use mathlib.Core.List.{List, [], ◌∷◌, ◌++◌, append-nil}
 use native.Mathlib.Omega.{arith}

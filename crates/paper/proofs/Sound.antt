@@ -3,7 +3,7 @@
 use Prim.Native.Nat.{ℕ, ◌+◌, ◌≤◌, ◌<◌}
 use lib.ListN.{length}
 use Rattle.paper.specs.Terms.{Part, Const, All, Cut}
-use Rattle.paper.specs.Sheet.{Run, Claim, Derived, Contains, Equals, ContainsTerm, Assertion, second_run}
+use Rattle.paper.specs.Sheet.{Claim, Derived, Contains, Equals, ContainsTerm, Assertion, second_run}
 use Rattle.paper.specs.Rows.{Row, Empty, Range, Text, Alt, Seq, Star, Grammar, row}
 
 -- a row's numbers, over a text of so many bytes and so many rows

@@ -1,11 +1,11 @@
 -- A row spells a word where it derives it of its own bytes, nothing compared: a derived word is the same as a spelled one.
 -- Assumes nothing.
 use Prim.Native.Nat.{ℕ, ◌≤◌}
-use mathlib.Core.Path.{◌≡◌, refl, subst}
+use mathlib.Core.Path.{◌≡◌}
 use mathlib.Core.List.{List, [], ◌∷◌, ◌++◌}
 use Rattle.paper.specs.Compare.{Same}
-use Rattle.paper.specs.Rows.{Row, Empty, Range, Text, Alt, Seq, Star, Grammar, row, stretch, Derives}
-use Rattle.paper.proofs.Comparing.{byte_refl, same_refl, same_append, same_parts}
+use Rattle.paper.specs.Rows.{Empty, Range, Text, Alt, Seq, Star, Grammar, row, stretch, Derives}
+use Rattle.paper.proofs.Comparing.{same_refl, same_append, same_parts}
 
 pub data Spells (g : Grammar) : ℕ → List ℕ → Type 0 where
   empty : {r : ℕ} → row g r ≡ Empty → Spells g r []

@@ -1,5 +1,5 @@
 -- What each call says and leaves in everything lent to it.
-use Rattle.std.specs.Prelude.{ℕ, ◌+◌, Bool, true, false, cond, List, [], ◌∷◌, ◌++◌, eqb, leb, ltb, length, drop, replicate}
+use Rattle.std.specs.Prelude.{ℕ, Bool, true, false, cond, List, ◌++◌, eqb, leb, ltb, length, drop, replicate}
 use Rattle.paper.specs.Trailer.{count_of, longest, limit}
 use Rattle.paper.specs.Refusals.{Fault, plain, no_fault, unless, or_else, latest, refusal}
 use Rattle.paper.specs.Sheet.{Sheet, sheet_of, grammar_of, letter}

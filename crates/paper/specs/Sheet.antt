@@ -1,5 +1,5 @@
 -- A sheet's contents: its rules, letters, rows over the text, parts, assertions and the two lengths; and how they are read from its bytes.
-use Rattle.std.specs.Prelude.{ℕ, ◌+◌, ◌*◌, Bool, true, false, cond, ◌&&◌, List, [], ◌∷◌, ◌++◌, eqb, leb, ltb, take, drop}
+use Rattle.std.specs.Prelude.{ℕ, ◌+◌, Bool, cond, ◌&&◌, List, eqb, leb, ltb, take, drop}
 use Rattle.paper.specs.Bytes.{u8_at, u16_at}
 use Rattle.paper.specs.Tests.{any_of, all_of, table_from}
 use Rattle.paper.specs.Trailer as trailer

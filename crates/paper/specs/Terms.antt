@@ -1,5 +1,5 @@
 -- Parts, terms and cuts. A place of a term is a byte that is known or one that is not.
-use Rattle.std.specs.Prelude.{ℕ, zero, suc, ◌+◌, ◌-◌, Bool, true, cond, ◌||◌, List, [], ◌∷◌, ◌++◌, map, eqb, leb, length, take, drop, replicate}
+use Rattle.std.specs.Prelude.{ℕ, ◌+◌, ◌-◌, Bool, true, cond, ◌||◌, List, [], ◌∷◌, ◌++◌, map, eqb, leb, length, take, drop, replicate}
 use Rattle.paper.specs.Rows.{stretch}
 use Rattle.paper.specs.Rules.{Rules, shortens}
 

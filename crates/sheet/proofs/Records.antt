@@ -1,10 +1,8 @@
 -- Where record i of a table of an accepted sheet lies.
 -- Assumes nothing.
 use Prim.Native.Nat.{ℕ, ◌+◌, ◌*◌, ◌<◌, ◌≤◌}
-use mathlib.Core.Path.{◌≡◌}
 use mathlib.Core.List.{List}
 use lib.ListN.{length}
-use native.Mathlib.Omega.{arith}
 use Rattle.paper.specs.Trailer.{size, count_of}
 use Rattle.sheet_trailer.specs.declared.Table.{Table}
 use Rattle.sheet_trailer.specs.Tables.{TableOf}

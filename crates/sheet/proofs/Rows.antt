@@ -1,11 +1,10 @@
 -- The rows of an accepted sheet: how many, and what their numbers are at most.
 -- Assumes nothing.
-use Prim.Native.Nat.{ℕ, ◌+◌, ◌<◌, ◌≤◌}
+use Prim.Native.Nat.{ℕ, ◌≤◌}
 use mathlib.Core.Path.{◌≡◌, sym, ◌∙◌}
 use mathlib.Core.List.{List}
 use lib.ListN.{length}
 use native.Mathlib.Omega.{arith}
-use Rattle.paper.specs.Trailer.{count_of}
 use Rattle.paper.specs.Rows.{Row, Empty, Range, Text, Alt, Seq, Star}
 use Rattle.paper.specs.Sheet.{grammar_of}
 use Rattle.paper.proofs.Sound.{SoundRow}

@@ -9,8 +9,8 @@ use borrow.Author.Tests.{eqb-true, leb-true, ltb-true}
 use native.Mathlib.Omega.{arith}
 use Rattle.paper.specs.Bytes.{u8_at, u16_at}
 use Rattle.paper.specs.Trailer.{count_of, record_at}
-use Rattle.paper.specs.Rows.{Row, Empty, Range, Text, Alt, Seq, Star, no_row, row_of}
-use Rattle.paper.specs.Terms.{Part, Const, All, Cut, part_of}
+use Rattle.paper.specs.Rows.{Empty, Range, Text, Alt, Seq, Star, no_row, row_of}
+use Rattle.paper.specs.Terms.{Const, All, Cut, part_of}
 use Rattle.paper.specs.Sheet.{Claim, Derived, Contains, Equals, ContainsTerm, claim_of, second_run, row_at, part_at, assertion_at}
 use Rattle.paper.specs.Records.{row_fields, row_ok, part_fields, part_ok, assert_fields, assert_ok, record_ok, table_ok, bad_table}
 use Rattle.paper.proofs.Tests.{and_left, and_right}

@@ -21,7 +21,7 @@ use Rattle.workspace.specs.Places.{place_of}
 use Rattle.workspace.proofs.Places.{place_known, place_unknown, places_at}
 use Rattle.terms.specs.declared.Places.{Places}
 use Rattle.terms.specs.Shown.{shown, Sized, meet_first}
-use Rattle.terms.proofs.Showing.{shown_length, places_length}
+use Rattle.terms.proofs.Showing.{shown_length}
 
 pub shown_at : (p : Places) (i : ℕ) → Sized p → i < p.len → get_or (shown p) i Unknown ≡ place_of (get_or p.of i 0)
 unfolding shown

@@ -7,7 +7,7 @@ use mathlib.Core.Bool.{Bool, ◌&&◌, ◌||◌}
 use mathlib.Core.List.{List}
 use borrow.Author.Tests.{lt-ltb, le-ltb, le-leb, lt-leb}
 use lib.Dec.{leb, ltb}
-use lib.ListN.{length, set}
+use lib.ListN.{length}
 use Rattle.workspace.specs.Bits.{set_bit}
 use Rattle.workspace.proofs.Bits.{set_bit_same, set_bit_other}
 use Rattle.walk_state.specs.Letters.{has_letter, Joined}

@@ -1,6 +1,5 @@
 use mathlib.Core.Path.{sym, ◌∙◌}
 use native.Mathlib.Omega.{arith}
-use borrow.Author.Rules.{rules}
 use Rattle.alike.proofs.bar_of.Goals as goal
 
 pub returns-then-is_letter : goal.returns-then-is_letter

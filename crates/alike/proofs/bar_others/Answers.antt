@@ -1,8 +1,6 @@
-use Prim.Native.Nat.{◌-◌, ◌≤◌}
 use mathlib.Core.Path.{◌≡◌}
-use lib.ListN.{length, length-set}
+use lib.ListN.{length-set}
 use Rattle.paper.specs.Sheet.{sheet_of}
-use Rattle.alike.specs.Slots.{BarsOthers}
 use Rattle.alike.proofs.Giving.{others_more}
 use borrow.Author.Rules.{rules}
 use native.Mathlib.Omega.{arith}

@@ -1,11 +1,8 @@
 use Prim.Native.Nat.{◌-◌, ◌≤◌}
 use mathlib.Core.Path.{◌≡◌}
-use lib.ListN.{length, length-set}
+use lib.ListN.{length}
 use Rattle.paper.specs.Sheet.{sheet_of}
 use Rattle.alike.specs.Slots.{BarsOthers}
-use Rattle.alike.proofs.Giving.{others_more}
-use borrow.Author.Rules.{rules}
-use native.Mathlib.Omega.{arith}
 use Rattle.alike.proofs.bar_others.Given as goal
 
 -- the bytes below b that are no letters are barred

@@ -1,7 +1,5 @@
-use Prim.Native.Nat.{◌-◌, ◌≤◌}
 use mathlib.Core.Path.{◌≡◌}
 use lib.ListN.{length, length-set}
-use Rattle.alike.specs.Slots.{TextBarred}
 use Rattle.alike.proofs.Giving.{text_none, text_more}
 use borrow.Author.Rules.{rules}
 use native.Mathlib.Omega.{arith}

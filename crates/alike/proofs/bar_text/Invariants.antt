@@ -1,10 +1,7 @@
 use Prim.Native.Nat.{◌-◌, ◌≤◌}
 use mathlib.Core.Path.{◌≡◌}
-use lib.ListN.{length, length-set}
+use lib.ListN.{length}
 use Rattle.alike.specs.Slots.{TextBarred}
-use Rattle.alike.proofs.Giving.{text_none, text_more}
-use borrow.Author.Rules.{rules}
-use native.Mathlib.Omega.{arith}
 use Rattle.alike.proofs.bar_text.Given as goal
 
 -- the first j bytes of the text are barred

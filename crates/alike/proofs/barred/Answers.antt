@@ -1,5 +1,4 @@
 use Rattle.alike.proofs.Giving.{text_barred}
-use borrow.Author.Rules.{rules}
 use Rattle.alike.proofs.barred.Goals as goal
 
 pub returns : goal.returns

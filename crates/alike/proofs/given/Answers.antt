@@ -1,5 +1,3 @@
-use Prim.Native.Nat.{◌-◌, ◌≤◌}
-use Rattle.alike.specs.Slots.{Slotted}
 use Rattle.alike.proofs.Giving.{slotted_none, slotted_more, slotted_given}
 use borrow.Author.Rules.{rules}
 use native.Mathlib.Omega.{arith}

@@ -1,8 +1,5 @@
 use Prim.Native.Nat.{◌-◌, ◌≤◌}
 use Rattle.alike.specs.Slots.{Slotted}
-use Rattle.alike.proofs.Giving.{slotted_none, slotted_more, slotted_given}
-use borrow.Author.Rules.{rules}
-use native.Mathlib.Omega.{arith}
 use Rattle.alike.proofs.given.Given as goal
 
 -- the first b bytes have their slots; the slots from 1 on below `used` have owners

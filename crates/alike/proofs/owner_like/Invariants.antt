@@ -1,6 +1,4 @@
 use Prim.Native.Nat.{◌-◌, ◌≤◌}
-use borrow.Author.Rules.{rules}
-use native.Mathlib.Omega.{arith}
 use Rattle.alike.proofs.owner_like.Given as goal
 
 -- k is a slot that has an owner, or the first that has none

@@ -1,6 +1,5 @@
 use native.Mathlib.Omega.{arith}
 use Rattle.alike.proofs.Giving.{no_slot}
-use borrow.Author.Rules.{rules}
 use Rattle.alike.proofs.slot_for.Goals as goal
 
 pub returns-then-bars-b-ne0 : goal.returns-then-bars-b-ne0

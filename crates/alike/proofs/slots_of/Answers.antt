@@ -3,7 +3,6 @@ use Rattle.paper.specs.Sheet.{sheet_of}
 use Rattle.paper.specs.Opens.{opens}
 use Rattle.alike.proofs.Holding.{holders_start}
 use Rattle.alike.proofs.Accepted.{given_classes, none_classes}
-use borrow.Author.Rules.{rules}
 use Rattle.alike.proofs.slots_of.Goals as goal
 
 pub returns-then-some_compares : goal.returns-then-some_compares

@@ -1,7 +1,6 @@
 use Rattle.sheet.proofs.Rows.{rows_few}
 use Rattle.chart.specs.Cells.{Charting}
 use Rattle.chart.proofs.Charting.{still, pairs_of, chained, cell_of}
-use borrow.Author.Rules.{rules}
 use native.Mathlib.Omega.{arith}
 use Rattle.chart.proofs.cell.Goals.{After-singles, After-wipe}
 use Rattle.chart.proofs.cell.Goals as goal

@@ -1,5 +1,4 @@
 use mathlib.Core.Path.{◌∙◌, ap}
-use borrow.Author.Rules.{rules}
 use Rattle.workspace.specs.Bits.{bit_at}
 use Rattle.chart.proofs.derives.Goals as goal
 

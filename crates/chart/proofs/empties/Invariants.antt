@@ -1,10 +1,6 @@
 use Prim.Native.Nat.{◌≤◌, ◌+◌, ◌-◌}
-use native.Mathlib.Omega.{arith}
-use borrow.Author.Rules.{rules}
 use Rattle.workspace.specs.Within.{Within}
 use Rattle.chart.specs.Cells.{emptied, Filled}
-use Rattle.chart.proofs.Filling.{filled_none, filled_more, filled_level, within_none, within_then, cell_within}
-use Rattle.chart.proofs.Charting.{empty_cell}
 use Rattle.chart.proofs.empties.Given as goal
 
 -- the empty spans before i are filled

@@ -1,7 +1,4 @@
-use Prim.Native.Nat.{◌≤◌, ◌<◌, ◌+◌, ◌-◌}
 use mathlib.Core.Path.{◌∙◌}
-use lib.ListN.{length}
-use Rattle.chart.specs.Cells.{derivable, Grown}
 use Rattle.chart.proofs.Filling.{within_none, within_then}
 use Rattle.chart.proofs.Charting.{still, empties_right, charted}
 use native.Mathlib.Omega.{arith}

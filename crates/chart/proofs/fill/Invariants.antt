@@ -1,10 +1,6 @@
 use Prim.Native.Nat.{◌≤◌, ◌<◌, ◌+◌, ◌-◌}
-use mathlib.Core.Path.{◌∙◌}
 use lib.ListN.{length}
 use Rattle.chart.specs.Cells.{derivable, Grown}
-use Rattle.chart.proofs.Filling.{within_none, within_then}
-use Rattle.chart.proofs.Charting.{still, empties_right, charted}
-use native.Mathlib.Omega.{arith}
 use Rattle.chart.proofs.fill.Given as goal
 
 -- the spans of fewer than m places are filled, and since the loop began only the table has changed

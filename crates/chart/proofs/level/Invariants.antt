@@ -2,9 +2,6 @@ use Prim.Native.Nat.{◌≤◌, ◌+◌, ◌-◌}
 use lib.ListN.{length}
 use Rattle.workspace.specs.Within.{Within}
 use Rattle.chart.specs.Cells.{derivable, Filled}
-use Rattle.chart.proofs.Filling.{filled_more, filled_level, within_none, within_then, cell_within}
-use Rattle.chart.proofs.Charting.{still}
-use native.Mathlib.Omega.{arith}
 use Rattle.chart.proofs.level.Given as goal
 
 -- the spans of m places before i are filled

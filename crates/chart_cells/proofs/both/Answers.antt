@@ -1,4 +1,3 @@
-use borrow.Author.Rules.{rules}
 use Rattle.chart_cells.specs.Steps.{both}
 use Rattle.chart_cells.proofs.both.Goals as goal
 

@@ -1,6 +1,5 @@
 use mathlib.Core.Path.{sym, ◌∙◌}
 use native.Mathlib.Omega.{arith}
-use borrow.Author.Rules.{rules}
 use Rattle.chart_cells.proofs.Adding.{adds_joined}
 use Rattle.chart_cells.proofs.Carrying.{bring_none, bring_all}
 use Rattle.chart_cells.proofs.bring.Goals as goal

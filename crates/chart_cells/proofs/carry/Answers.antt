@@ -1,8 +1,6 @@
 use mathlib.Core.Path.{sym, ◌∙◌}
-use Prim.Native.Nat.{◌≤◌, ◌-◌}
 use native.Mathlib.Omega.{arith}
-use borrow.Author.Rules.{rules}
-use Rattle.chart_cells.proofs.Carrying.{Carrying, carry_start, carry_turn, carry_done, carry_none}
+use Rattle.chart_cells.proofs.Carrying.{carry_start, carry_turn, carry_done, carry_none}
 use Rattle.chart_cells.proofs.carry.Goals as goal
 
 pub returns-then-none : goal.returns-then-none

@@ -1,8 +1,5 @@
-use mathlib.Core.Path.{sym, ◌∙◌}
 use Prim.Native.Nat.{◌≤◌, ◌-◌}
-use native.Mathlib.Omega.{arith}
-use borrow.Author.Rules.{rules}
-use Rattle.chart_cells.proofs.Carrying.{Carrying, carry_start, carry_turn, carry_done, carry_none}
+use Rattle.chart_cells.proofs.Carrying.{Carrying}
 use Rattle.chart_cells.proofs.carry.Given as goal
 
 -- `chart::splits::carry` meets its contract. The loop's invariant is `Carrying`.

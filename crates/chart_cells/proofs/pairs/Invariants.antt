@@ -1,10 +1,5 @@
-use mathlib.Core.Path.{subst}
 use Prim.Native.Nat.{◌≤◌, ◌-◌}
-use native.Mathlib.Omega.{arith}
-use borrow.Author.Rules.{rules}
 use Rattle.chart_cells.specs.Steps.{Adds, paired}
-use Rattle.chart_cells.proofs.Adding.{adds_none}
-use Rattle.chart_cells.proofs.Splitting.{paired_none, pairs_turn}
 use Rattle.chart_cells.proofs.pairs.Given as goal
 
 -- `chart::splits::pairs` meets its contract. The loop's invariant: the rows of the pairs that were looked at are in.

@@ -1,5 +1,4 @@
 use native.Mathlib.Omega.{arith}
-use borrow.Author.Rules.{rules}
 use Rattle.chart_cells.proofs.Adding.{adds_put}
 use Rattle.chart_cells.proofs.put.Goals as goal
 

@@ -1,6 +1,5 @@
 use mathlib.Core.Path.{sym, ◌∙◌}
 use lib.ListN.{get_or}
-use borrow.Author.Rules.{rules}
 use Rattle.chart_cells.proofs.Splitting.{over_left, over_right}
 use Rattle.chart_cells.proofs.split.Goals as goal
 

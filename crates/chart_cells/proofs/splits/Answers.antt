@@ -1,7 +1,6 @@
 use mathlib.Core.Path.{◌≡◌, sym, ◌∙◌, subst}
 use Prim.Native.Nat.{ℕ, ◌≤◌, ◌<◌, ◌+◌, ◌-◌}
 use native.Mathlib.Omega.{arith}
-use borrow.Author.Rules.{rules}
 use Rattle.workspace.specs.Spans.{span_at}
 use Rattle.workspace.proofs.Spans.{span_lt}
 use Rattle.chart_cells.specs.Steps.{Adds, parted}

@@ -1,12 +1,7 @@
-use mathlib.Core.Path.{◌≡◌, sym, ◌∙◌, subst}
-use Prim.Native.Nat.{ℕ, ◌≤◌, ◌<◌, ◌+◌, ◌-◌}
-use native.Mathlib.Omega.{arith}
-use borrow.Author.Rules.{rules}
+use mathlib.Core.Path.{◌≡◌}
+use Prim.Native.Nat.{◌≤◌, ◌<◌, ◌+◌, ◌-◌}
 use Rattle.workspace.specs.Spans.{span_at}
-use Rattle.workspace.proofs.Spans.{span_lt}
 use Rattle.chart_cells.specs.Steps.{Adds, parted}
-use Rattle.chart_cells.proofs.Adding.{adds_none}
-use Rattle.chart_cells.proofs.Splitting.{left_next, span_from, right_is, left_apart, parted_none, split_turn, no_pairs}
 use Rattle.chart_cells.proofs.splits.Given as goal
 
 -- `splits` meets its contract. The loop's invariant: the splits before e are done, and `left` is the span that ends there.

@@ -1,4 +1,3 @@
-use borrow.Author.Rules.{rules}
 use Rattle.paper.specs.Bytes.{u16, u32}
 use Rattle.numbers.proofs.Stores.{put_more}
 use Rattle.editions.proofs.put_ending.Goals as goal

@@ -2,7 +2,6 @@ use Prim.Native.Nat.{◌+◌, ◌*◌, ◌≤◌}
 use mathlib.Core.Path.{◌≡◌, sym}
 use mathlib.Core.List.{◌++◌}
 use native.Mathlib.Omega.{arith}
-use borrow.Author.Rules.{rules}
 use lib.ListN.{length, take}
 use lib.Seq.{length-take-le}
 use Rattle.paper.specs.Trailer.{base}

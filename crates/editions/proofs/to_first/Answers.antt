@@ -1,7 +1,5 @@
 use mathlib.Core.Path.{◌≡◌, sym, ◌∙◌}
 use native.Mathlib.Omega.{arith}
-use borrow.Author.Rules.{rules}
-use borrow.Author.Tests.{not-true, not-false}
 use Rattle.paper.specs.Refusals.{refusal}
 use Rattle.paper.specs.Editions.{ToFirst, only}
 use Rattle.sheet.proofs.Good.{good}

@@ -1,7 +1,6 @@
 use mathlib.Core.Path.{◌≡◌}
 use mathlib.Core.Bool.{true}
 use native.Mathlib.Omega.{arith}
-use borrow.Author.Rules.{rules}
 use Rattle.paper.specs.Rules.{no_rule}
 use Rattle.paper.specs.Trailer.{rules_of}
 use Rattle.paper.specs.Refusals.{refusal}

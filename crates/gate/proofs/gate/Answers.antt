@@ -2,11 +2,10 @@ use native.Mathlib.Omega.{arith}
 use mathlib.Core.Path.{◌≡◌, refl, sym, ◌∙◌}
 use mathlib.Core.Bool.{true}
 use lib.ListN.{length}
-use borrow.Author.Tests.{eq-eqb, ne_eqb, le-leb, lt-leb, not-true, not-false}
+use borrow.Author.Tests.{eq-eqb, ne_eqb, le-leb, lt-leb}
 use Rattle.list.proofs.Formed.{right_trailer}
 use Rattle.paper.specs.Gate.{n_of, well_formed}
 use Rattle.paper.specs.Answers.{words, gate_says, gate_leaves}
-use borrow.Author.Rules.{rules}
 use Rattle.gate.proofs.gate.Goals.{Else-not-well_formed, Else-word-n}
 use Rattle.gate.proofs.gate.Goals as goal
 

@@ -1,5 +1,4 @@
 use Rattle.groundwork.specs.Ground.{some_letter}
-use borrow.Author.Rules.{rules}
 use Rattle.groundwork.proofs.holds_letter.Goals as goal
 
 pub letter_in-requires : goal.letter_in-requires

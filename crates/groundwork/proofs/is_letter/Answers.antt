@@ -1,4 +1,3 @@
-use borrow.Author.Rules.{rules}
 use Rattle.workspace.proofs.Bits.{test_is}
 use Rattle.groundwork.proofs.is_letter.Goals as goal
 

@@ -2,7 +2,6 @@ use mathlib.Core.Path.{◌≡◌, sym, ◌∙◌}
 use lib.ListN.{length, length-set}
 use Rattle.rows.specs.Sets.{RowsAt}
 use Rattle.groundwork.proofs.Laying.{length_ends, laid}
-use borrow.Author.Rules.{rules}
 use native.Mathlib.Omega.{arith}
 use Rattle.groundwork.proofs.lay.Goals.{After-closures, After-pairs-j, After-table_of-t}
 use Rattle.groundwork.proofs.lay.Goals as goal

@@ -1,10 +1,9 @@
-use Prim.Native.Nat.{ℕ, ◌-◌, ◌≤◌}
+use Prim.Native.Nat.{ℕ}
 use mathlib.Core.Path.{subst}
 use native.Mathlib.Nat.{not-suc-le-zero}
 use Rattle.paper.specs.Sheet.{grammar_of}
 use Rattle.groundwork.specs.Laying.{Lengths}
 use Rattle.groundwork.proofs.Laying.{lengths_more}
-use borrow.Author.Rules.{rules}
 use native.Mathlib.Omega.{arith}
 use Rattle.groundwork.proofs.lengths.Goals as goal
 

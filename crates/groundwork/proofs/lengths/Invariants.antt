@@ -1,11 +1,6 @@
-use Prim.Native.Nat.{ℕ, ◌-◌, ◌≤◌}
-use mathlib.Core.Path.{subst}
-use native.Mathlib.Nat.{not-suc-le-zero}
+use Prim.Native.Nat.{◌-◌, ◌≤◌}
 use Rattle.paper.specs.Sheet.{grammar_of}
 use Rattle.groundwork.specs.Laying.{Lengths}
-use Rattle.groundwork.proofs.Laying.{lengths_more}
-use borrow.Author.Rules.{rules}
-use native.Mathlib.Omega.{arith}
 use Rattle.groundwork.proofs.lengths.Given as goal
 
 -- the mask holds the lengths of the text rows below q

@@ -1,6 +1,5 @@
-use Prim.Native.Nat.{ℕ, ◌+◌, ◌-◌, ◌≤◌}
+use Prim.Native.Nat.{ℕ, ◌+◌, ◌-◌}
 use mathlib.Core.Path.{◌≡◌, sym, ap, ◌∙◌}
-use mathlib.Core.Bool.{false}
 use Rattle.paper.specs.Tests.{any_below}
 use Rattle.paper.specs.Sheet.{sheet_of}
 use Rattle.paper.proofs.Tests.{any_none, any_intro}

@@ -1,13 +1,9 @@
-use Prim.Native.Nat.{ℕ, ◌+◌, ◌-◌, ◌≤◌}
-use mathlib.Core.Path.{◌≡◌, sym, ap, ◌∙◌}
+use Prim.Native.Nat.{◌-◌, ◌≤◌}
+use mathlib.Core.Path.{◌≡◌}
 use mathlib.Core.Bool.{false}
 use Rattle.paper.specs.Tests.{any_below}
 use Rattle.paper.specs.Sheet.{sheet_of}
-use Rattle.paper.proofs.Tests.{any_none, any_intro}
-use Rattle.sheet.proofs.Contents.{none_more}
 use Rattle.groundwork.specs.Laying.{letter_from}
-use Rattle.groundwork.proofs.ByKind.{letters_of}
-use native.Mathlib.Omega.{arith}
 use Rattle.groundwork.proofs.letter_in.Given as goal
 
 -- none of the first k bytes is a letter

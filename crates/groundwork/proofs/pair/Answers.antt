@@ -1,6 +1,5 @@
 use mathlib.Core.Path.{refl}
 use Rattle.groundwork.proofs.ByKind.{paired_seq, paired_star, paired_none}
-use borrow.Author.Rules.{rules}
 use native.Mathlib.Omega.{arith}
 use Rattle.groundwork.proofs.pair.Goals as goal
 

@@ -1,6 +1,5 @@
 use mathlib.Core.Path.{refl}
 use Rattle.groundwork.specs.Ground.{pair_word}
-use borrow.Author.Rules.{rules}
 use Rattle.groundwork.proofs.pair_word.Goals as goal
 
 pub returns : goal.returns

@@ -1,8 +1,8 @@
-use Prim.Native.Nat.{ℕ, ◌-◌, ◌≤◌}
+use Prim.Native.Nat.{ℕ}
 use mathlib.Core.Path.{◌∙◌, subst}
 use Rattle.paper.specs.Sheet.{grammar_of}
 use Rattle.sheet.proofs.Rows.{row_wide, rows_few}
-use Rattle.groundwork.specs.Laying.{Below, Pairs}
+use Rattle.groundwork.specs.Laying.{Pairs}
 use Rattle.groundwork.proofs.Frame.{below_refl, below_then, below_less}
 use Rattle.groundwork.proofs.Laying.{pairs_none, pairs_more}
 use native.Mathlib.Omega.{arith}

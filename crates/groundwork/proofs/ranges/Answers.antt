@@ -1,4 +1,4 @@
-use Prim.Native.Nat.{ℕ, ◌-◌, ◌≤◌}
+use Prim.Native.Nat.{ℕ}
 use mathlib.Core.Path.{◌≡◌, ap, ◌∙◌, subst}
 use lib.ListN.{length}
 use Rattle.paper.specs.Sheet.{grammar_of, sheet_of}
@@ -7,7 +7,6 @@ use Rattle.groundwork.specs.Ground.{some_letter}
 use Rattle.groundwork.specs.Laying.{Below, Ranges}
 use Rattle.groundwork.proofs.Frame.{below_refl, below_then, below_wiped, below_put}
 use Rattle.groundwork.proofs.Laying.{ranges_none, ranges_more}
-use borrow.Author.Rules.{rules}
 use native.Mathlib.Omega.{arith}
 use Rattle.groundwork.proofs.ranges.Goals.{After-holds_letter-on}
 use Rattle.groundwork.proofs.ranges.Goals as goal

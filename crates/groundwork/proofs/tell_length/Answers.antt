@@ -1,6 +1,5 @@
 use mathlib.Core.Path.{refl}
 use Rattle.groundwork.proofs.ByKind.{told_other, told_long, told_text}
-use borrow.Author.Rules.{rules}
 use Rattle.groundwork.proofs.tell_length.Goals as goal
 
 pub returns-then-b-gt60 : goal.returns-then-b-gt60

@@ -1,7 +1,6 @@
 use mathlib.Core.Path.{sym, ◌∙◌}
 use Rattle.judge.proofs.Holding.{asked_none, asked_left}
 use Rattle.judge.proofs.Judging.{can_asserted, can_unknown, can_unknown_2, can_denied}
-use borrow.Author.Rules.{rules}
 use Rattle.judge.proofs.can_be.Goals as goal
 
 pub returns-then-some_unknown : goal.returns-then-some_unknown

@@ -1,5 +1,4 @@
 use Rattle.paper.specs.Opens.{opens}
-use borrow.Author.Rules.{rules}
 use Rattle.judge.proofs.opens.Goals as goal
 
 pub returns : goal.returns

@@ -1,8 +1,6 @@
-use Prim.Native.Nat.{◌-◌}
 use mathlib.Core.Path.{◌∙◌}
 use Rattle.chart.proofs.Filling.{within_then}
-use Rattle.judge.proofs.Judging.{Upto, upto_none, upto_more, upto_shut, upto_all}
-use borrow.Author.Rules.{rules}
+use Rattle.judge.proofs.Judging.{upto_none, upto_more, upto_shut, upto_all}
 use native.Mathlib.Omega.{arith}
 use Rattle.judge.proofs.opens_on.Goals as goal
 

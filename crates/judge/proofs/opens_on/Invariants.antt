@@ -1,9 +1,5 @@
 use Prim.Native.Nat.{◌-◌}
-use mathlib.Core.Path.{◌∙◌}
-use Rattle.chart.proofs.Filling.{within_then}
-use Rattle.judge.proofs.Judging.{Upto, upto_none, upto_more, upto_shut, upto_all}
-use borrow.Author.Rules.{rules}
-use native.Mathlib.Omega.{arith}
+use Rattle.judge.proofs.Judging.{Upto}
 use Rattle.judge.proofs.opens_on.Given as goal
 
 -- the first i assertions are possible, and the workspace holds what it is said to hold

@@ -3,7 +3,6 @@ use native.Mathlib.Omega.{arith}
 use Rattle.chart.proofs.Filling.{within_none}
 use Rattle.judge.proofs.Holding.{meant_here, keeps_on}
 use Rattle.judge.proofs.Judging.{second_run_lem, readable_first, readable_second, outside_first, outside_second, inside_both}
-use borrow.Author.Rules.{rules}
 use Rattle.judge.proofs.possible.Goals as goal
 
 pub inside-requires : goal.inside-requires

@@ -3,7 +3,6 @@ use Prim.Native.Nat.{◌≤◌, ◌<◌}
 use borrow.Author.Tests.{eq-eqb, ne_eqb, le-leb, lt-leb}
 use Rattle.list.proofs.ListLaws.{entry_is}
 use Rattle.paper.specs.Gate.{trailer_of, head_end, head_ok}
-use borrow.Author.Rules.{rules}
 use Rattle.list.proofs.entry.Goals as goal
 
 pub returns-then-o-t : goal.returns-then-o-t

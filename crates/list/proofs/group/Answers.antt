@@ -1,9 +1,8 @@
-use Rattle.paper.specs.Gate.{head_at, head_end, entry_ok, rows_of}
-use borrow.Author.Rules.{rules}
+use Rattle.paper.specs.Gate.{head_end, entry_ok, rows_of}
 use native.Mathlib.Omega.{arith}
 use mathlib.Core.Bool.{true}
 use mathlib.Core.Path.{◌≡◌, sym, ap, ◌∙◌}
-use Prim.Native.Nat.{◌-◌, ◌≤◌, ◌<◌}
+use Prim.Native.Nat.{◌<◌}
 use Rattle.list.proofs.ListLaws.{past_end, past_broken, head_next, head_first, entry_before}
 use Rattle.list.proofs.Each.{all_more, all_stop}
 use Rattle.paper.proofs.Tests.{all_none}

@@ -1,12 +1,7 @@
-use Rattle.paper.specs.Gate.{head_at, head_end, entry_ok, rows_of}
-use borrow.Author.Rules.{rules}
-use native.Mathlib.Omega.{arith}
+use Rattle.paper.specs.Gate.{head_at, entry_ok}
 use mathlib.Core.Bool.{true}
-use mathlib.Core.Path.{◌≡◌, sym, ap, ◌∙◌}
-use Prim.Native.Nat.{◌-◌, ◌≤◌, ◌<◌}
-use Rattle.list.proofs.ListLaws.{past_end, past_broken, head_next, head_first, entry_before}
-use Rattle.list.proofs.Each.{all_more, all_stop}
-use Rattle.paper.proofs.Tests.{all_none}
+use mathlib.Core.Path.{◌≡◌}
+use Prim.Native.Nat.{◌-◌, ◌≤◌}
 use Rattle.paper.specs.Tests.{all_below}
 use Rattle.list.proofs.group.Given as goal
 

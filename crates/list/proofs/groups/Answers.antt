@@ -1,8 +1,7 @@
-use borrow.Author.Rules.{rules}
 use native.Mathlib.Omega.{arith}
 use mathlib.Core.Bool.{true}
 use mathlib.Core.Path.{◌≡◌, sym, ◌∙◌}
-use Prim.Native.Nat.{suc, ◌+◌, ◌-◌, ◌≤◌, ◌<◌}
+use Prim.Native.Nat.{suc, ◌≤◌, ◌<◌}
 use Rattle.list.proofs.ListLaws.{past_end, past_broken, group_none, group_read, group_next, group_apart, group_is, group_before}
 use Rattle.list.proofs.Each.{all_more, all_stop}
 use Rattle.paper.proofs.Tests.{all_none}

@@ -1,12 +1,7 @@
-use borrow.Author.Rules.{rules}
-use native.Mathlib.Omega.{arith}
 use mathlib.Core.Bool.{true}
-use mathlib.Core.Path.{◌≡◌, sym, ◌∙◌}
-use Prim.Native.Nat.{suc, ◌+◌, ◌-◌, ◌≤◌, ◌<◌}
-use Rattle.list.proofs.ListLaws.{past_end, past_broken, group_none, group_read, group_next, group_apart, group_is, group_before}
-use Rattle.list.proofs.Each.{all_more, all_stop}
-use Rattle.paper.proofs.Tests.{all_none}
-use Rattle.paper.specs.Gate.{n_of, rows_of, group_at, group_ok, group_begin, entry_ok}
+use mathlib.Core.Path.{◌≡◌}
+use Prim.Native.Nat.{◌+◌, ◌-◌, ◌≤◌}
+use Rattle.paper.specs.Gate.{group_ok, group_begin}
 use Rattle.paper.specs.Tests.{all_below}
 use Rattle.list.proofs.groups.Given as goal
 

@@ -2,7 +2,6 @@ use Prim.Native.Nat.{◌≤◌}
 use native.Mathlib.Omega.{arith}
 use Rattle.list.proofs.OptionLaws.{no_kind}
 use Rattle.paper.specs.Gate.{option_fields}
-use borrow.Author.Rules.{rules}
 use Rattle.list.proofs.option_fields.Goals as goal
 
 pub returns-in-1 : goal.returns-in-1

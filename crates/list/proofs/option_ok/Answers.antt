@@ -1,6 +1,5 @@
 use borrow.Author.Tests.{ne_eqb}
 use Rattle.paper.specs.Gate.{option_ok}
-use borrow.Author.Rules.{rules}
 use Rattle.list.proofs.option_ok.Goals as goal
 
 pub returns-then-u16_at-ne0 : goal.returns-then-u16_at-ne0

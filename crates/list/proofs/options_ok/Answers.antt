@@ -1,11 +1,7 @@
 use native.Mathlib.Omega.{arith}
-use mathlib.Core.Bool.{true}
 use mathlib.Core.Path.{◌≡◌, sym, ◌∙◌}
-use Prim.Native.Nat.{◌-◌, ◌≤◌}
 use Rattle.list.proofs.Each.{all_more, all_stop}
-use Rattle.list.specs.Read.{option_from}
 use Rattle.paper.proofs.Tests.{all_none}
-use Rattle.paper.specs.Tests.{all_below}
 use Rattle.list.proofs.options_ok.Goals as goal
 
 pub loop-j-init : goal.loop-j-init

@@ -1,5 +1,4 @@
 use borrow.Author.Tests.{eq-eqb, ne_eqb, le-leb, lt-leb}
-use borrow.Author.Rules.{rules}
 use Rattle.list.proofs.stretch_ok.Goals as goal
 
 pub returns-then-f-m : goal.returns-then-f-m

@@ -1,5 +1,5 @@
 use mathlib.Core.Path.{sym, ◌∙◌}
-use borrow.Author.Tests.{le-leb, lt-leb, not-true, not-false}
+use borrow.Author.Tests.{le-leb, lt-leb}
 use Rattle.paper.specs.Gate.{well_formed}
 use borrow.Author.Rules.{rules}
 use Rattle.list.proofs.well_formed.Goals as goal

@@ -1,5 +1,4 @@
 use Prim.Native.Nat.{◌≤◌}
-use mathlib.Core.Path.{sym, ◌∙◌}
 use native.Mathlib.Omega.{arith}
 use Rattle.paper.specs.Refusals.{plain}
 use lib.ListN.{length}
@@ -7,7 +6,6 @@ use Rattle.paper.specs.Sheet.{grammar_of}
 use Rattle.paper.specs.Cuts.{cut_list}
 use Rattle.maker_options.proofs.Turns.{job_rows, groups_bound}
 use Rattle.maker.proofs.Answers.{list_length, refused_space, not_refused, answer_refused, answer_written, written_list}
-use borrow.Author.Rules.{rules}
 use Rattle.maker.proofs.fill.Goals as goal
 
 pub overflow_add-total-2 : goal.overflow_add-total-2

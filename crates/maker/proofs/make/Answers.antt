@@ -6,7 +6,6 @@ use Rattle.sheet.specs.declared.Fault.{Fault}
 use Rattle.sheet.specs.Told.{told}
 use Rattle.sheet.proofs.Good.{good}
 use Rattle.maker.proofs.Answers.{refused_sheet, refused_row, refused_length, answer_refused, job_is}
-use borrow.Author.Rules.{rules}
 use Rattle.maker.proofs.make.Goals.{Else-fault-ne0}
 use Rattle.maker.proofs.make.Goals as goal
 

@@ -1,4 +1,3 @@
-use borrow.Author.Rules.{rules}
 use Rattle.paper.specs.Bytes.{u16, u32}
 use Rattle.maker_groups.specs.Parts.{mark}
 use Rattle.numbers.proofs.Stores.{put_more}

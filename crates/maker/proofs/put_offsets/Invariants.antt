@@ -1,14 +1,9 @@
-use borrow.Author.Rules.{rules}
-use Prim.Native.Nat.{ℕ, ◌+◌, ◌≤◌, ◌-◌}
-use mathlib.Core.Path.{◌≡◌, ap}
-use native.Mathlib.Omega.{arith}
+use Prim.Native.Nat.{◌+◌, ◌≤◌, ◌-◌}
+use mathlib.Core.Path.{◌≡◌}
 use lib.ListN.{length}
 use Rattle.paper.specs.Tests.{gather}
 use Rattle.numbers.specs.Put.{Put}
-use Rattle.numbers.proofs.Stores.{put_same}
-use Rattle.maker_groups.proofs.Writing.{gather_none, gather_turn}
 use Rattle.maker.specs.Trailer.{offset_bytes}
-use Rattle.maker.proofs.Answers.{offsets_size}
 use Rattle.maker.proofs.put_offsets.Given as goal
 
 -- the offsets below m are written

@@ -1,13 +1,11 @@
 use borrow.Author.Rules.{rules}
-use Prim.Native.Nat.{ℕ, ◌≤◌, ◌-◌}
-use mathlib.Core.Path.{◌≡◌, ap}
+use Prim.Native.Nat.{ℕ}
+use mathlib.Core.Path.{ap}
 use native.Mathlib.Omega.{arith}
-use lib.ListN.{length}
 use Rattle.paper.specs.Tests.{gather}
 use Rattle.paper.specs.Sheet.{grammar_of}
 use Rattle.paper.specs.Cuts.{entry, group}
 use Rattle.maker_options.proofs.Turns.{job_few, entry_within, job_rows, rows_end}
-use Rattle.numbers.specs.Put.{Put}
 use Rattle.numbers.proofs.Stores.{put_same}
 use Rattle.maker_groups.proofs.Writing.{gather_none, gather_turn}
 use Rattle.maker_groups.proofs.put_group.Goals as goal

@@ -1,14 +1,9 @@
-use borrow.Author.Rules.{rules}
-use Prim.Native.Nat.{ℕ, ◌+◌, ◌≤◌, ◌-◌}
-use mathlib.Core.Path.{◌≡◌, ap}
-use native.Mathlib.Omega.{arith}
+use Prim.Native.Nat.{◌+◌, ◌≤◌, ◌-◌}
+use mathlib.Core.Path.{◌≡◌}
 use lib.ListN.{length}
 use Rattle.paper.specs.Sheet.{grammar_of}
-use Rattle.paper.specs.Cuts.{group, groups}
-use Rattle.maker_options.proofs.Turns.{groups_inside}
+use Rattle.paper.specs.Cuts.{groups}
 use Rattle.numbers.specs.Put.{Put}
-use Rattle.numbers.proofs.Stores.{put_same}
-use Rattle.maker_groups.proofs.Writing.{gather_none, gather_turn}
 use Rattle.maker_groups.proofs.put_groups.Given as goal
 
 -- the groups of the lengths below m are written

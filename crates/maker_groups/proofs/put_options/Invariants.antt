@@ -1,18 +1,12 @@
-use borrow.Author.Rules.{rules}
 use Prim.Native.Nat.{◌≤◌, ◌<◌, ◌-◌}
-use mathlib.Core.Path.{◌≡◌, sym, ap, ◌∙◌}
+use mathlib.Core.Path.{◌≡◌}
 use mathlib.Core.Bool.{true}
-use native.Mathlib.Omega.{arith}
 use lib.ListN.{length}
 use Rattle.paper.specs.Sheet.{grammar_of}
 use Rattle.paper.specs.Cuts.{all_bytes}
-use Rattle.paper.proofs.Encoding.{length_options}
 use Rattle.maker_options.specs.Giving.{from_below}
 use Rattle.maker_options.specs.Prepared.{chosen}
-use Rattle.maker_options.proofs.Turns.{job_few, nil_some, nil_none, met_first, met_turn, met_all, met_inside}
 use Rattle.numbers.specs.Put.{Put}
-use Rattle.numbers.proofs.Stores.{put_same}
-use Rattle.maker_groups.proofs.Writing.{options_none, options_more, one_nil}
 use Rattle.maker_groups.proofs.put_options.Given as goal
 
 -- q is the row that is met next, and the options of those before it are written

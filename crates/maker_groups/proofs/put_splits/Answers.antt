@@ -1,10 +1,8 @@
 use borrow.Author.Rules.{rules}
-use Prim.Native.Nat.{ℕ, ◌≤◌, ◌-◌}
+use Prim.Native.Nat.{ℕ}
 use mathlib.Core.Path.{◌≡◌, ap}
 use native.Mathlib.Omega.{arith}
-use lib.ListN.{length}
 use Rattle.paper.specs.Cuts.{splits, all_bytes}
-use Rattle.numbers.specs.Put.{Put}
 use Rattle.numbers.proofs.Stores.{put_same}
 use Rattle.maker_groups.proofs.Writing.{splits_start, splits_turn, splits_size}
 use Rattle.maker_groups.proofs.put_splits.Goals as goal

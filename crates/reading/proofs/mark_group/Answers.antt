@@ -1,8 +1,5 @@
-use borrow.Author.Rules.{rules}
-use lib.ListN.{length}
 use native.Mathlib.Omega.{arith}
-use mathlib.Core.Path.{◌≡◌, refl, sym, ap, ◌∙◌}
-use Prim.Native.Nat.{◌-◌, ◌≤◌}
+use mathlib.Core.Path.{refl, sym, ap, ◌∙◌}
 use Rattle.reading.proofs.Stages.{turn_none, turn_more}
 use Rattle.list.proofs.ListLaws.{head_first, head_next}
 use Rattle.reading.specs.Marks.{in_turn, mark_head, mark_group}

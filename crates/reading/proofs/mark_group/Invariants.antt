@@ -1,12 +1,8 @@
-use borrow.Author.Rules.{rules}
 use lib.ListN.{length}
-use native.Mathlib.Omega.{arith}
-use mathlib.Core.Path.{◌≡◌, refl, sym, ap, ◌∙◌}
+use mathlib.Core.Path.{◌≡◌}
 use Prim.Native.Nat.{◌-◌, ◌≤◌}
-use Rattle.reading.proofs.Stages.{turn_none, turn_more}
-use Rattle.list.proofs.ListLaws.{head_first, head_next}
-use Rattle.reading.specs.Marks.{in_turn, mark_head, mark_group}
-use Rattle.paper.specs.Gate.{head_end, head_at}
+use Rattle.reading.specs.Marks.{in_turn, mark_head}
+use Rattle.paper.specs.Gate.{head_at}
 use Rattle.reading.proofs.mark_group.Given as goal
 
 -- the heads of the first r rows are marked, and o is where the next one begins

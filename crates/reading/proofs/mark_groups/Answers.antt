@@ -1,13 +1,10 @@
-use borrow.Author.Rules.{rules}
-use lib.ListN.{length}
 use native.Mathlib.Omega.{arith}
-use mathlib.Core.Path.{◌≡◌, refl, sym, ap, ◌∙◌}
-use Prim.Native.Nat.{◌+◌, ◌-◌, ◌≤◌}
+use mathlib.Core.Path.{refl, sym, ap, ◌∙◌}
 use Rattle.reading.proofs.Stages.{turn_none, turn_more}
 use Rattle.list.proofs.Formed.{begins}
 use Rattle.list.proofs.ListLaws.{group_none, group_next}
 use Rattle.reading.specs.Marks.{in_turn, mark_group, marked}
-use Rattle.paper.specs.Gate.{head_at, group_begin}
+use Rattle.paper.specs.Gate.{head_at}
 use Rattle.reading.proofs.mark_groups.Goals as goal
 
 pub loop-m-init : goal.loop-m-init

@@ -1,13 +1,8 @@
-use borrow.Author.Rules.{rules}
 use lib.ListN.{length}
-use native.Mathlib.Omega.{arith}
-use mathlib.Core.Path.{◌≡◌, refl, sym, ap, ◌∙◌}
+use mathlib.Core.Path.{◌≡◌}
 use Prim.Native.Nat.{◌+◌, ◌-◌, ◌≤◌}
-use Rattle.reading.proofs.Stages.{turn_none, turn_more}
-use Rattle.list.proofs.Formed.{begins}
-use Rattle.list.proofs.ListLaws.{group_none, group_next}
-use Rattle.reading.specs.Marks.{in_turn, mark_group, marked}
-use Rattle.paper.specs.Gate.{head_at, group_begin}
+use Rattle.reading.specs.Marks.{in_turn, mark_group}
+use Rattle.paper.specs.Gate.{group_begin}
 use Rattle.reading.proofs.mark_groups.Given as goal
 
 -- the first m groups are marked, and `at` is where the next one begins

@@ -1,12 +1,11 @@
-use borrow.Author.Rules.{rules}
 use lib.ListN.{length}
 use native.Mathlib.Omega.{arith}
 use mathlib.Core.Path.{◌≡◌, refl, sym, ap, ◌∙◌, subst}
-use Prim.Native.Nat.{◌-◌, ◌≤◌, ◌<◌}
+use Prim.Native.Nat.{◌≤◌, ◌<◌}
 use Rattle.paper.proofs.WellFormed.{formed}
 use Rattle.reading.proofs.Stages.{turn_none, turn_more, mark_at_lem, mark_head_lem}
 use Rattle.list.proofs.Formed.{head_inside, option_inside}
-use Rattle.reading.specs.Marks.{in_turn, mark_at, mark_option}
+use Rattle.reading.specs.Marks.{mark_option}
 use Rattle.list.specs.Read.{option_of}
 use Rattle.paper.proofs.Obeys.{Obeys}
 use Rattle.paper.specs.Gate.{head_end, option_count}

@@ -1,8 +1,5 @@
-use borrow.Author.Rules.{rules}
-use lib.ListN.{length}
 use native.Mathlib.Omega.{arith}
-use mathlib.Core.Path.{◌≡◌, refl, sym, ap, ◌∙◌}
-use Prim.Native.Nat.{◌+◌, ◌-◌, ◌≤◌}
+use mathlib.Core.Path.{refl, sym, ap, ◌∙◌}
 use Rattle.reading.proofs.Stages.{turn_none, turn_more}
 use Rattle.reading.specs.Marks.{in_turn, mark_start, mark_option}
 use Rattle.list.specs.Read.{option_of}

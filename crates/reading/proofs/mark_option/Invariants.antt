@@ -1,10 +1,7 @@
-use borrow.Author.Rules.{rules}
 use lib.ListN.{length}
-use native.Mathlib.Omega.{arith}
-use mathlib.Core.Path.{◌≡◌, refl, sym, ap, ◌∙◌}
+use mathlib.Core.Path.{◌≡◌}
 use Prim.Native.Nat.{◌+◌, ◌-◌, ◌≤◌}
-use Rattle.reading.proofs.Stages.{turn_none, turn_more}
-use Rattle.reading.specs.Marks.{in_turn, mark_start, mark_option}
+use Rattle.reading.specs.Marks.{in_turn, mark_start}
 use Rattle.list.specs.Read.{option_of}
 use Rattle.reading.proofs.mark_option.Given as goal
 

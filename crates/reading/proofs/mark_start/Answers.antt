@@ -1,6 +1,4 @@
-use borrow.Author.Tests.{not-true, not-false}
 use Rattle.reading.specs.Marks.{mark_start}
-use borrow.Author.Rules.{rules}
 use Rattle.reading.proofs.mark_start.Goals as goal
 
 pub returns-then-not-holds : goal.returns-then-not-holds

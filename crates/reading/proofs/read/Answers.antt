@@ -4,7 +4,6 @@ use Rattle.paper.proofs.WellFormed.{formed}
 use Rattle.reading.proofs.Stages.{marked_reads, marked_zeroed}
 use Rattle.list.proofs.Formed.{right_trailer}
 use Rattle.reading.specs.Marks.{marked}
-use borrow.Author.Rules.{rules}
 use Rattle.reading.proofs.read.Goals as goal
 
 pub trailer_of-t-requires : goal.trailer_of-t-requires

@@ -1,7 +1,5 @@
-use lib.ListN.{length, get_or}
 use native.Mathlib.Omega.{arith}
-use mathlib.Core.Path.{◌≡◌, sym}
-use Prim.Native.Nat.{ℕ, ◌+◌, ◌-◌, ◌≤◌, ◌<◌}
+use mathlib.Core.Path.{sym}
 use borrow.Author.Count.{below_more}
 use Rattle.reading.proofs.Holding.{stands_yes, stands_no}
 use Rattle.reading.proofs.stands.Goals as goal

@@ -1,9 +1,6 @@
 use lib.ListN.{length, get_or}
-use native.Mathlib.Omega.{arith}
-use mathlib.Core.Path.{◌≡◌, sym}
+use mathlib.Core.Path.{◌≡◌}
 use Prim.Native.Nat.{ℕ, ◌+◌, ◌-◌, ◌≤◌, ◌<◌}
-use borrow.Author.Count.{below_more}
-use Rattle.reading.proofs.Holding.{stands_yes, stands_no}
 use Rattle.reading.proofs.stands.Given as goal
 
 -- the first j bytes of the part stand in the word

@@ -1,12 +1,6 @@
-use mathlib.Core.Path.{◌≡◌, refl, ◌∙◌}
-use lib.ListN.{length}
-use borrow.Author.Tests.{not-true, not-false}
-use Rattle.paper.specs.Sheet.{grammar_of}
-use Rattle.workspace.specs.Room.{room}
-use Rattle.rows.specs.Sets.{NullSound}
+use mathlib.Core.Path.{refl, ◌∙◌}
 use Rattle.sheet.proofs.Rows.{rows_all}
 use Rattle.rows.proofs.NullLaws.{null_start, null_end}
-use borrow.Author.Rules.{rules}
 use native.Mathlib.Omega.{arith}
 use Rattle.rows.proofs.nulls.Goals as goal
 

@@ -1,12 +1,6 @@
-use mathlib.Core.Path.{◌≡◌, refl, ◌∙◌}
-use lib.ListN.{length}
-use borrow.Author.Tests.{not-true, not-false}
-use Rattle.paper.specs.Sheet.{grammar_of}
-use Rattle.workspace.specs.Room.{room}
-use Rattle.rows.specs.Sets.{ReachSound}
+use mathlib.Core.Path.{refl, ◌∙◌}
 use Rattle.sheet.proofs.Rows.{rows_few, rows_all}
 use Rattle.rows.proofs.ReachLaws.{reach_start, reach_end}
-use borrow.Author.Rules.{rules}
 use native.Mathlib.Omega.{arith}
 use Rattle.rows.proofs.reach.Goals as goal
 

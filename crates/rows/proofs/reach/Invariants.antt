@@ -1,13 +1,8 @@
-use mathlib.Core.Path.{◌≡◌, refl, ◌∙◌}
+use mathlib.Core.Path.{◌≡◌}
 use lib.ListN.{length}
-use borrow.Author.Tests.{not-true, not-false}
 use Rattle.paper.specs.Sheet.{grammar_of}
 use Rattle.workspace.specs.Room.{room}
 use Rattle.rows.specs.Sets.{ReachSound}
-use Rattle.sheet.proofs.Rows.{rows_few, rows_all}
-use Rattle.rows.proofs.ReachLaws.{reach_start, reach_end}
-use borrow.Author.Rules.{rules}
-use native.Mathlib.Omega.{arith}
 use Rattle.rows.proofs.reach.Given as goal
 
 -- each row reaches itself, and every row that is in reaches

@@ -1,13 +1,9 @@
-use mathlib.Core.Path.{◌≡◌, ◌∙◌}
-use mathlib.Core.Logic.{⊎_elim}
+use mathlib.Core.Path.{◌≡◌}
 use Prim.Native.Nat.{◌-◌, ◌≤◌}
 use lib.ListN.{length}
 use Rattle.paper.specs.Sheet.{grammar_of}
 use Rattle.rows.specs.Sets.{ReachSound, ReachSettled}
 use Rattle.rows.specs.Passes.{Turns}
-use Rattle.rows.proofs.Passes.{turns_none, turns_new, turns_same, pass_done}
-use borrow.Author.Rules.{rules}
-use native.Mathlib.Omega.{arith}
 use Rattle.rows.proofs.reach_pass.Given as goal
 
 -- j rows have had their turn

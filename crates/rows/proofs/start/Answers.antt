@@ -1,7 +1,6 @@
-use mathlib.Core.Path.{◌≡◌, ap, ◌∙◌, subst}
-use Prim.Native.Nat.{ℕ, ◌-◌, ◌≤◌}
+use mathlib.Core.Path.{ap, ◌∙◌, subst}
+use Prim.Native.Nat.{ℕ}
 use native.Mathlib.Nat.{not-suc-le-zero}
-use lib.ListN.{length}
 use Rattle.workspace.specs.Bits.{set_bit}
 use Rattle.rows.specs.Sets.{Started}
 use Rattle.rows.proofs.ReachLaws.{started_more}

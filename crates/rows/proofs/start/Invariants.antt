@@ -1,12 +1,7 @@
-use mathlib.Core.Path.{◌≡◌, ap, ◌∙◌, subst}
-use Prim.Native.Nat.{ℕ, ◌-◌, ◌≤◌}
-use native.Mathlib.Nat.{not-suc-le-zero}
+use mathlib.Core.Path.{◌≡◌}
+use Prim.Native.Nat.{◌-◌, ◌≤◌}
 use lib.ListN.{length}
-use Rattle.workspace.specs.Bits.{set_bit}
 use Rattle.rows.specs.Sets.{Started}
-use Rattle.rows.proofs.ReachLaws.{started_more}
-use borrow.Author.Rules.{rules}
-use native.Mathlib.Omega.{arith}
 use Rattle.rows.proofs.start.Given as goal
 
 -- of the first q entries each holds its own row alone

@@ -1,5 +1,4 @@
 use native.Mathlib.Omega.{arith}
-use borrow.Author.Rules.{rules}
 use Rattle.rows.proofs.turn_of.Goals as goal
 
 pub returns-then-down : goal.returns-then-down

@@ -1,4 +1,4 @@
-use mathlib.Core.Path.{◌≡◌, sym, ◌∙◌}
+use mathlib.Core.Path.{sym, ◌∙◌}
 use native.Mathlib.Omega.{arith}
 use Rattle.sheet.proofs.Contents.{assertion_here}
 use Rattle.sheet.proofs.Records.{record_room, record_below}

@@ -1,8 +1,7 @@
-use mathlib.Core.Path.{◌≡◌, sym, ap, ◌∙◌}
-use borrow.Author.Tests.{eq-eqb, ne_eqb, not-true, not-false}
+use mathlib.Core.Path.{sym, ◌∙◌}
+use borrow.Author.Tests.{eq-eqb, ne_eqb}
 use native.Mathlib.Omega.{arith}
 use Rattle.paper.specs.Refusals.{content_refusal}
-use borrow.Author.Rules.{rules}
 use Rattle.sheet.proofs.check_content.Goals as goal
 
 pub rules_ok-requires : goal.rules_ok-requires

@@ -1,8 +1,7 @@
-use mathlib.Core.Path.{◌≡◌, sym, ◌∙◌}
-use borrow.Author.Tests.{eq-eqb, ne_eqb, not-true, not-false}
+use mathlib.Core.Path.{sym, ◌∙◌}
+use borrow.Author.Tests.{eq-eqb, ne_eqb}
 use Rattle.paper.specs.Refusals.{table_refusal}
 use Rattle.sheet.proofs.Good.{laid}
-use borrow.Author.Rules.{rules}
 use Rattle.sheet.proofs.check_tables.Goals as goal
 
 pub returns-then-t-ne5 : goal.returns-then-t-ne5

@@ -1,11 +1,10 @@
-use mathlib.Core.Path.{◌≡◌, sym, ◌∙◌}
+use mathlib.Core.Path.{sym, ◌∙◌}
 use lib.Dec.{leb}
 use lib.ListN.{length}
-use borrow.Author.Tests.{le-leb, lt-leb, leb-true, not-true, not-false}
+use borrow.Author.Tests.{le-leb, lt-leb, leb-true}
 use Rattle.paper.specs.Trailer.{edition, trailer_size, total_ok}
 use Rattle.paper.specs.Refusals.{refusal}
 use Rattle.paper.proofs.Tests.{and_left}
-use borrow.Author.Rules.{rules}
 use Rattle.sheet.proofs.first_fault.Goals as goal
 
 pub returns-then-s-lt32 : goal.returns-then-s-lt32

@@ -1,5 +1,4 @@
 use borrow.Author.Tests.{le-leb, lt-leb}
-use borrow.Author.Rules.{rules}
 use Rattle.sheet.proofs.in_range.Goals as goal
 
 pub returns-then-s-o : goal.returns-then-s-o

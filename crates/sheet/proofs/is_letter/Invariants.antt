@@ -1,13 +1,8 @@
-use Prim.Native.Nat.{ℕ, ◌+◌, ◌*◌, ◌-◌, ◌≤◌}
-use mathlib.Core.Path.{◌≡◌, sym, ap, ◌∙◌}
-use mathlib.Core.Bool.{true, false}
-use lib.ListN.{length}
+use Prim.Native.Nat.{◌-◌, ◌≤◌}
+use mathlib.Core.Path.{◌≡◌}
+use mathlib.Core.Bool.{false}
 use Rattle.paper.specs.Tests.{any_below}
-use Rattle.paper.specs.Trailer.{count_of}
-use Rattle.paper.proofs.Tests.{any_none, any_intro}
-use Rattle.sheet.proofs.Contents.{in_span, none_more, letter_is}
-use Rattle.sheet.proofs.Records.{record_room}
-use native.Mathlib.Omega.{arith}
+use Rattle.sheet.proofs.Contents.{in_span}
 use Rattle.sheet.proofs.is_letter.Given as goal
 
 -- none of the first i ranges holds the byte

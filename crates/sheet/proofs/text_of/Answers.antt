@@ -1,7 +1,6 @@
 use native.Mathlib.Omega.{arith}
 use native.Mathlib.Nat.{add-sub_cancel_left}
 use Rattle.paper.specs.Sheet.{text_of}
-use borrow.Author.Rules.{rules}
 use Rattle.sheet.proofs.text_of.Goals as goal
 
 pub table_of-t-requires : goal.table_of-t-requires

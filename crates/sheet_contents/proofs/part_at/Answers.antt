@@ -1,5 +1,4 @@
 use Rattle.paper.specs.Sheet.{part_at}
-use borrow.Author.Rules.{rules}
 use Rattle.sheet_contents.proofs.part_at.Goals as goal
 
 pub returns : goal.returns

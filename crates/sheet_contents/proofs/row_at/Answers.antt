@@ -1,5 +1,4 @@
 use Rattle.paper.specs.Sheet.{row_at}
-use borrow.Author.Rules.{rules}
 use Rattle.sheet_contents.proofs.row_at.Goals as goal
 
 pub returns : goal.returns

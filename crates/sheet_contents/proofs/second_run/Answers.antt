@@ -1,4 +1,3 @@
-use borrow.Author.Rules.{rules}
 use Rattle.sheet_contents.proofs.second_run.Goals as goal
 
 pub returns-in-Derived : goal.returns-in-Derived

@@ -1,12 +1,8 @@
-use Prim.Native.Nat.{ℕ, ◌+◌, ◌*◌, ◌-◌, ◌≤◌}
-use mathlib.Core.Path.{◌≡◌, sym, ◌∙◌, ap}
-use mathlib.Core.Bool.{Bool}
-use mathlib.Core.List.{List}
+use Prim.Native.Nat.{◌+◌, ◌*◌, ◌≤◌}
+use mathlib.Core.Path.{◌≡◌, sym, ◌∙◌}
 use lib.ListN.{length}
-use Rattle.paper.specs.Trailer.{size, offset_of, count_of, record_at}
-use Rattle.paper.specs.Records.{record_ok}
-use Rattle.sheet_trailer.specs.declared.Table.{Table}
-use Rattle.sheet_trailer.proofs.Search.{Sought, start, more, stop, done}
+use Rattle.paper.specs.Trailer.{size, offset_of, count_of}
+use Rattle.sheet_trailer.proofs.Search.{start, more, stop, done}
 use Rattle.sheet_trailer.proofs.Tables.{room, next}
 use native.Mathlib.Omega.{arith}
 use Rattle.sheet_records.proofs.bad_record.Invariants.{good}

@@ -1,14 +1,10 @@
-use Prim.Native.Nat.{ℕ, ◌+◌, ◌*◌, ◌-◌, ◌≤◌}
-use mathlib.Core.Path.{◌≡◌, sym, ◌∙◌, ap}
+use Prim.Native.Nat.{ℕ, ◌+◌, ◌*◌, ◌-◌}
+use mathlib.Core.Path.{◌≡◌}
 use mathlib.Core.Bool.{Bool}
 use mathlib.Core.List.{List}
-use lib.ListN.{length}
-use Rattle.paper.specs.Trailer.{size, offset_of, count_of, record_at}
+use Rattle.paper.specs.Trailer.{size, offset_of, record_at}
 use Rattle.paper.specs.Records.{record_ok}
-use Rattle.sheet_trailer.specs.declared.Table.{Table}
-use Rattle.sheet_trailer.proofs.Search.{Sought, start, more, stop, done}
-use Rattle.sheet_trailer.proofs.Tables.{room, next}
-use native.Mathlib.Omega.{arith}
+use Rattle.sheet_trailer.proofs.Search.{Sought}
 use Rattle.sheet_records.proofs.bad_record.Given as goal
 
 abbrev pub good : List ℕ → (t i : ℕ) → Bool

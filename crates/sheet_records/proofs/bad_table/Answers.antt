@@ -1,9 +1,8 @@
-use Prim.Native.Nat.{◌-◌}
 use mathlib.Core.Path.{◌≡◌, sym, ◌∙◌}
 use mathlib.Core.Bool.{true, false}
 use borrow.Author.Tests.{eq-eqb, ne_eqb}
 use Rattle.paper.specs.Records.{table_ok}
-use Rattle.sheet_trailer.proofs.Search.{Sought, start, more, stop, done}
+use Rattle.sheet_trailer.proofs.Search.{start, more, stop, done}
 use native.Mathlib.Omega.{arith}
 use Rattle.sheet_records.proofs.bad_table.Goals as goal
 

@@ -1,7 +1,6 @@
 use mathlib.Core.Path.{◌≡◌}
 use native.Mathlib.Omega.{arith}
 use Rattle.paper.specs.Records.{record_ok}
-use borrow.Author.Rules.{rules}
 use Rattle.sheet_records.proofs.record_ok.Goals as goal
 
 pub letter_ok-requires : goal.letter_ok-requires

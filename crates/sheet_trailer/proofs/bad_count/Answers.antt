@@ -1,7 +1,5 @@
-use Prim.Native.Nat.{◌-◌}
 use mathlib.Core.Path.{sym, ◌∙◌}
-use Rattle.paper.specs.Trailer.{count_ok}
-use Rattle.sheet_trailer.proofs.Search.{Sought, start, more, stop, done}
+use Rattle.sheet_trailer.proofs.Search.{start, more, stop, done}
 use native.Mathlib.Omega.{arith}
 use Rattle.sheet_trailer.proofs.bad_count.Goals as goal
 

@@ -1,8 +1,6 @@
 use Prim.Native.Nat.{◌-◌}
-use mathlib.Core.Path.{sym, ◌∙◌}
 use Rattle.paper.specs.Trailer.{count_ok}
-use Rattle.sheet_trailer.proofs.Search.{Sought, start, more, stop, done}
-use native.Mathlib.Omega.{arith}
+use Rattle.sheet_trailer.proofs.Search.{Sought}
 use Rattle.sheet_trailer.proofs.bad_count.Given as goal
 
 -- each table before t has a count within its limits

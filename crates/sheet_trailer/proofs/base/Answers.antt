@@ -1,5 +1,4 @@
 use Rattle.paper.specs.Trailer.{base}
-use borrow.Author.Rules.{rules}
 use Rattle.sheet_trailer.proofs.base.Goals as goal
 
 pub returns : goal.returns

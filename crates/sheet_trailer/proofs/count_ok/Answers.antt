@@ -1,6 +1,5 @@
 use borrow.Author.Tests.{le-leb, lt-leb}
 use Rattle.paper.specs.Trailer.{count_ok}
-use borrow.Author.Rules.{rules}
 use Rattle.sheet_trailer.proofs.count_ok.Goals as goal
 
 pub returns-then-t-n : goal.returns-then-t-n

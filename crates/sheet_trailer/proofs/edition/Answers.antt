@@ -1,6 +1,4 @@
 use Rattle.paper.specs.Trailer.{edition}
-use mathlib.Core.Path.{◌≡◌}
-use borrow.Author.Rules.{rules}
 use native.Mathlib.Omega.{arith}
 use Rattle.sheet_trailer.proofs.edition.Goals as goal
 

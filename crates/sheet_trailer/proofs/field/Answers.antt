@@ -1,9 +1,6 @@
-use mathlib.Core.Path.{◌≡◌, ◌∙◌, ap}
-use Prim.Native.Nat.{ℕ, ◌+◌, ◌*◌, ◌≤◌}
+use Prim.Native.Nat.{◌+◌, ◌*◌, ◌≤◌}
 use lib.ListN.{length}
-use Rattle.paper.specs.Trailer.{field, base, edition}
-use Rattle.paper.specs.Bytes.{u16_at}
-use borrow.Author.Rules.{rules}
+use Rattle.paper.specs.Trailer.{field, base}
 use native.Mathlib.Omega.{arith}
 use Rattle.sheet_trailer.proofs.field.Goals.{After-base}
 use Rattle.sheet_trailer.proofs.field.Goals as goal

@@ -1,6 +1,5 @@
 use borrow.Author.Tests.{le-leb, lt-leb}
 use Rattle.paper.specs.Trailer.{lengths_ok}
-use borrow.Author.Rules.{rules}
 use Rattle.sheet_trailer.proofs.lengths_ok.Goals as goal
 
 pub returns-then-low-high : goal.returns-then-low-high

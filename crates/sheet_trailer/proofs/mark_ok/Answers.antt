@@ -1,6 +1,5 @@
 use Rattle.paper.specs.Trailer.{mark_ok}
 use borrow.Author.Tests.{le-leb, lt-leb}
-use borrow.Author.Rules.{rules}
 use Rattle.sheet_trailer.proofs.mark_ok.Goals as goal
 
 pub returns-then-e-first : goal.returns-then-e-first

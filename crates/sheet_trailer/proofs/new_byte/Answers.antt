@@ -1,7 +1,5 @@
-use mathlib.Core.Path.{◌≡◌}
 use Prim.Native.Nat.{◌+◌, ◌<◌}
 use lib.ListN.{length}
-use borrow.Author.Rules.{rules}
 use borrow.Author.Tests.{lt-leb, le-leb}
 use native.Mathlib.Omega.{arith}
 use Rattle.paper.specs.Trailer.{base, new_byte}

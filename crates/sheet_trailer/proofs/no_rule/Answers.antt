@@ -1,4 +1,3 @@
-use borrow.Author.Rules.{rules}
 use borrow.Author.Tests.{eq-eqb, ne_eqb}
 use Rattle.paper.specs.Rules.{no_rule}
 use Rattle.paper.specs.Trailer.{rules_of}

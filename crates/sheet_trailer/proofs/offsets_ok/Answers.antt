@@ -1,11 +1,11 @@
-use Prim.Native.Nat.{◌+◌, ◌*◌, ◌-◌, ◌≤◌}
+use Prim.Native.Nat.{◌+◌, ◌*◌, ◌≤◌}
 use mathlib.Core.Bool.{true, false}
 use mathlib.Core.Path.{◌≡◌, refl, sym, ◌∙◌}
 use native.Mathlib.Numerals.{add-one}
 use borrow.Author.Tests.{eq-eqb, ne_eqb}
 use Rattle.paper.specs.Trailer.{size, offset_ok, offsets_ok, offset_of, start_of}
 use Rattle.sheet_trailer.proofs.Tables.{table_most}
-use Rattle.sheet_trailer.proofs.Search.{Sought, start, more, stop, done}
+use Rattle.sheet_trailer.proofs.Search.{start, more, stop, done}
 use native.Mathlib.Omega.{arith}
 use Rattle.sheet_trailer.proofs.offsets_ok.Goals.{After-table_of-x}
 use Rattle.sheet_trailer.proofs.offsets_ok.Goals as goal

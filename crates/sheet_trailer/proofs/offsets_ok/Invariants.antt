@@ -1,12 +1,7 @@
-use Prim.Native.Nat.{◌+◌, ◌*◌, ◌-◌, ◌≤◌}
-use mathlib.Core.Bool.{true, false}
-use mathlib.Core.Path.{◌≡◌, refl, sym, ◌∙◌}
-use native.Mathlib.Numerals.{add-one}
-use borrow.Author.Tests.{eq-eqb, ne_eqb}
-use Rattle.paper.specs.Trailer.{size, offset_ok, offsets_ok, offset_of, start_of}
-use Rattle.sheet_trailer.proofs.Tables.{table_most}
-use Rattle.sheet_trailer.proofs.Search.{Sought, start, more, stop, done}
-use native.Mathlib.Omega.{arith}
+use Prim.Native.Nat.{◌*◌, ◌-◌, ◌≤◌}
+use mathlib.Core.Path.{◌≡◌}
+use Rattle.paper.specs.Trailer.{offset_ok, start_of}
+use Rattle.sheet_trailer.proofs.Search.{Sought}
 use Rattle.sheet_trailer.proofs.offsets_ok.Given as goal
 
 -- each table before t begins where the one before it ends, and table t has to begin at `at`

@@ -1,4 +1,3 @@
-use borrow.Author.Rules.{rules}
 use borrow.Author.Tests.{le-leb, lt-leb, eq-eqb, ne_eqb}
 use Rattle.paper.specs.Trailer.{rules_ok}
 use Rattle.sheet_trailer.proofs.rules_ok.Goals as goal

@@ -1,4 +1,3 @@
-use borrow.Author.Rules.{rules}
 use Rattle.paper.specs.Trailer.{rules_of}
 use Rattle.sheet_trailer.proofs.shortens.Goals as goal
 

@@ -1,4 +1,3 @@
-use borrow.Author.Rules.{rules}
 use Rattle.sheet_trailer.proofs.table_of.Goals as goal
 
 pub returns : goal.returns

@@ -1,6 +1,5 @@
 use borrow.Author.Tests.{le-leb, lt-leb}
 use Rattle.paper.specs.Trailer.{total_ok}
-use borrow.Author.Rules.{rules}
 use Rattle.sheet_trailer.proofs.total_ok.Goals as goal
 
 pub returns-then-s-edition : goal.returns-then-s-edition

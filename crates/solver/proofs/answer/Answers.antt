@@ -1,10 +1,8 @@
 use mathlib.Core.Path.{sym, ap, ◌∙◌}
 use native.Mathlib.Omega.{arith}
-use Rattle.paper.specs.Answers.{Said}
 use Rattle.search.proofs.Tellings.{tells_fills}
 use Rattle.solver.specs.Reported.{solved}
 use Rattle.solver.proofs.Solving.{cleared_same}
-use borrow.Author.Rules.{rules}
 use Rattle.solver.proofs.answer.Goals as goal
 
 pub put_word-requires : goal.put_word-requires

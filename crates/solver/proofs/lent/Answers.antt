@@ -2,7 +2,6 @@ use native.Mathlib.Omega.{arith}
 use Rattle.paper.specs.Refusals.{plain, latest}
 use Rattle.sheet.proofs.Good.{good}
 use Rattle.solver.proofs.Solving.{refusing, answering, says_18, says_19, says_answer}
-use borrow.Author.Rules.{rules}
 use Rattle.solver.proofs.lent.Goals as goal
 
 pub returns-then-work-lt-WORDS : goal.returns-then-work-lt-WORDS

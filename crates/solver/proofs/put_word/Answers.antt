@@ -1,9 +1,8 @@
 use mathlib.Core.Path.{◌≡◌}
 use lib.ListN.{length}
-use Prim.Native.Nat.{◌-◌, ◌≤◌}
 use native.Mathlib.Omega.{arith}
 use borrow.Author.Rules.{rules}
-use Rattle.solver.proofs.Putting.{Put, put_start, put_more, put_long, put_end}
+use Rattle.solver.proofs.Putting.{put_start, put_more, put_long, put_end}
 use Rattle.solver.proofs.put_word.Goals.{Start}
 use Rattle.solver.proofs.put_word.Goals as goal
 

@@ -1,9 +1,5 @@
-use mathlib.Core.Path.{◌≡◌}
-use lib.ListN.{length}
 use Prim.Native.Nat.{◌-◌, ◌≤◌}
-use native.Mathlib.Omega.{arith}
-use borrow.Author.Rules.{rules}
-use Rattle.solver.proofs.Putting.{Put, put_start, put_more, put_long, put_end}
+use Rattle.solver.proofs.Putting.{Put}
 use Rattle.solver.proofs.put_word.Given as goal
 
 abbrev pub invariant-loop-i : goal.invariant-loop-i

@@ -1,11 +1,9 @@
-use Prim.Native.Nat.{ℕ}
 use mathlib.Core.Path.{◌≡◌, sym, ap, ◌∙◌}
 use Rattle.paper.specs.Refusals as paper
 use Rattle.paper.specs.Refusals.{latest, refusal}
 use Rattle.sheet.specs.declared.Fault.{Fault}
 use Rattle.sheet.specs.Told.{told}
 use Rattle.solver.proofs.Solving.{refusing, says_sheet}
-use borrow.Author.Rules.{rules}
 use Rattle.solver.proofs.solve.Goals as goal
 
 number : {f : Fault} {x : paper.Fault} → f ≡ told x → f.number ≡ x.number

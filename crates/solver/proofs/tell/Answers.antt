@@ -1,4 +1,3 @@
-use mathlib.Core.Path.{◌≡◌}
 use lib.Seq.{length-take-le}
 use borrow.Author.Tests.{ne_eqb}
 use native.Mathlib.Omega.{arith}

@@ -1,6 +1,5 @@
 use mathlib.Core.Path.{sym, ap, ◌∙◌}
 use Rattle.paper.specs.Answers.{gate_leaves}
-use borrow.Author.Rules.{rules}
 use Rattle.strovimel_c.proofs.strovimel_gate.Goals as goal
 
 pub returns : goal.returns

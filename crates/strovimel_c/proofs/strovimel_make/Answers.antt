@@ -5,7 +5,6 @@ use Rattle.sheet.specs.Told.{reported}
 use Rattle.maker.proofs.Coincide.{makes}
 use Rattle.strovimel_c.specs.Structs.{made_of}
 use Rattle.strovimel_c.proofs.Fits.{list_fits}
-use borrow.Author.Rules.{rules}
 use Rattle.strovimel_c.proofs.strovimel_make.Goals as goal
 
 pub tell_made-requires : goal.tell_made-requires

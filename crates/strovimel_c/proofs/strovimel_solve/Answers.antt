@@ -6,7 +6,6 @@ use Rattle.solver.specs.Reported.{reported}
 use Rattle.solver.proofs.Coincide.{reports}
 use Rattle.strovimel_c.specs.Structs.{struct_of}
 use Rattle.strovimel_c.proofs.Fits.{word_fits}
-use borrow.Author.Rules.{rules}
 use Rattle.strovimel_c.proofs.strovimel_solve.Goals as goal
 
 pub tell_solved-requires : goal.tell_solved-requires

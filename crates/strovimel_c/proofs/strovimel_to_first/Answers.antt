@@ -6,7 +6,6 @@ use Rattle.sheet.specs.Told.{reported}
 use Rattle.editions.proofs.Coincide.{moves}
 use Rattle.strovimel_c.specs.Structs.{made_of}
 use Rattle.strovimel_c.proofs.Fits.{sheet_fits}
-use borrow.Author.Rules.{rules}
 use Rattle.strovimel_c.proofs.strovimel_to_first.Goals as goal
 
 pub tell_made-requires : goal.tell_made-requires

@@ -1,4 +1,3 @@
-use borrow.Author.Rules.{rules}
 use Rattle.strovimel_c.proofs.tell_made.Goals as goal
 
 pub overflow_cast-result : goal.overflow_cast-result

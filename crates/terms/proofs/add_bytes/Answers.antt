@@ -1,9 +1,7 @@
-use Prim.Native.Nat.{ℕ, ◌-◌, ◌<◌}
-use lib.ListN.{length, get_or}
 use borrow.Author.Rules.{rules}
 use borrow.Author.Count.{below_more}
 use Rattle.terms.specs.Shown.{pasted_of}
-use Rattle.terms.proofs.Pasting.{Pasting, paste_start, paste_more, paste_end}
+use Rattle.terms.proofs.Pasting.{paste_start, paste_more, paste_end}
 use native.Mathlib.Omega.{arith}
 use Rattle.terms.proofs.add_bytes.Goals as goal
 

@@ -1,10 +1,6 @@
 use Prim.Native.Nat.{ℕ, ◌-◌, ◌<◌}
 use lib.ListN.{length, get_or}
-use borrow.Author.Rules.{rules}
-use borrow.Author.Count.{below_more}
-use Rattle.terms.specs.Shown.{pasted_of}
-use Rattle.terms.proofs.Pasting.{Pasting, paste_start, paste_more, paste_end}
-use native.Mathlib.Omega.{arith}
+use Rattle.terms.proofs.Pasting.{Pasting}
 use Rattle.terms.proofs.add_bytes.Given as goal
 
 -- the first i bytes have been copied, and each of them is below 256

@@ -1,7 +1,6 @@
 use Prim.Native.Nat.{◌+◌, ◌-◌}
 use mathlib.Core.Path.{◌≡◌, ap, ◌∙◌}
 use native.Mathlib.Omega.{arith}
-use borrow.Author.Rules.{rules}
 use Rattle.terms.specs.Shown.{pasted_of}
 use Rattle.terms.proofs.Showing.{cut_inside_lem, cut_over, cut_behind, pasted_none}
 use Rattle.terms.proofs.add_cut.Goals as goal

@@ -4,7 +4,6 @@ use Rattle.paper.specs.Sheet.{text_of}
 use Rattle.paper.specs.Terms.{full_length}
 use Rattle.sheet.proofs.Contents.{text_length}
 use Rattle.terms.proofs.Adding.{add_const, add_all, add_cut}
-use borrow.Author.Rules.{rules}
 use Rattle.terms.proofs.add_part.Goals.{In-All, In-Const, In-Cut}
 use Rattle.terms.proofs.add_part.Goals as goal
 

@@ -1,9 +1,6 @@
-use Prim.Native.Nat.{◌-◌}
-use lib.ListN.{length}
 use borrow.Author.Rules.{rules}
 use Rattle.terms.specs.Shown.{pasted_of}
-use Rattle.terms.proofs.Pasting.{Pasting, paste_start, paste_more, paste_end}
-use native.Mathlib.Omega.{arith}
+use Rattle.terms.proofs.Pasting.{paste_start, paste_more, paste_end}
 use Rattle.terms.proofs.add_places.Goals as goal
 
 pub loop-i-init : goal.loop-i-init

@@ -5,7 +5,6 @@ use lib.ListN.{length, get_or}
 use Rattle.terms.specs.declared.Places.{Places}
 use Rattle.terms.specs.Shown.{shown, pasted_of}
 use Rattle.terms.proofs.Showing.{blank, blank_sized, pasted_sized, v_shown}
-use borrow.Author.Rules.{rules}
 use Rattle.terms.proofs.all_of_v.Goals as goal
 
 pub returns : goal.returns

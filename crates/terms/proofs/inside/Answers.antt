@@ -1,4 +1,4 @@
-use Prim.Native.Nat.{◌+◌, ◌-◌}
+use Prim.Native.Nat.{◌+◌}
 use mathlib.Core.Path.{◌≡◌, sym, ap, ◌∙◌}
 use mathlib.Core.Bool.{not}
 use borrow.Author.Count.{below_more}
@@ -6,7 +6,7 @@ use lib.ListN.{get_or}
 use Rattle.paper.specs.Terms.{All, cut_inside}
 use Rattle.paper.specs.Sheet.{sheet_of}
 use Rattle.sheet_contents.specs.Read.{as_run}
-use Rattle.terms.proofs.Joining.{InsideTo, inside_all, one_past}
+use Rattle.terms.proofs.Joining.{inside_all, one_past}
 use native.Mathlib.Omega.{arith}
 use Rattle.terms.proofs.inside.Goals.{After-past}
 use Rattle.terms.proofs.inside.Goals as goal

@@ -1,5 +1,4 @@
 use Rattle.paper.specs.Terms.{cut_inside}
-use borrow.Author.Rules.{rules}
 use Rattle.terms.proofs.past.Goals as goal
 
 pub cut_past-requires : goal.cut_past-requires

@@ -1,8 +1,6 @@
-use Prim.Native.Nat.{◌-◌}
 use Rattle.paper.specs.Terms.{All}
-use Rattle.sheet_contents.specs.Read.{as_run}
 use Rattle.terms.proofs.Showing.{blank}
-use Rattle.terms.proofs.Joining.{Joined, join_start, next_room, join_more, join_end}
+use Rattle.terms.proofs.Joining.{join_start, next_room, join_more, join_end}
 use native.Mathlib.Omega.{arith}
 use Rattle.terms.proofs.term.Goals as goal
 

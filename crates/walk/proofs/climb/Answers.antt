@@ -4,7 +4,7 @@ use borrow.Author.Rules.{rules}
 use Rattle.walk_state.specs.Letters.{has_letter, FirstFrom}
 use Rattle.walk_state.specs.Moves.{last_of}
 use Rattle.walk.proofs.Frames.{frame_start}
-use Rattle.walk.proofs.Climbs.{Climbing, climb_start, climb_note, climb_skip, climb_over, climb_next, climb_back, climb_end, to_go, skip_less, back_less}
+use Rattle.walk.proofs.Climbs.{Climbing, climb_start, climb_note, climb_skip, climb_over, climb_next, climb_back, climb_end, skip_less, back_less}
 use Rattle.walk.proofs.climb.Goals.{After-first_from-b, After-recall-x}
 use Rattle.walk.proofs.climb.Goals as goal
 

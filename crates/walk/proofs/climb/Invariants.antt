@@ -1,10 +1,5 @@
-use Prim.Native.Nat.{◌<◌, ◌+◌}
-use native.Mathlib.Omega.{arith}
-use borrow.Author.Rules.{rules}
-use Rattle.walk_state.specs.Letters.{has_letter, FirstFrom}
-use Rattle.walk_state.specs.Moves.{last_of}
-use Rattle.walk.proofs.Frames.{frame_start}
-use Rattle.walk.proofs.Climbs.{Climbing, climb_start, climb_note, climb_skip, climb_over, climb_next, climb_back, climb_end, to_go, skip_less, back_less}
+use Rattle.walk_state.specs.Letters.{has_letter}
+use Rattle.walk.proofs.Climbs.{Climbing, to_go}
 use Rattle.walk.proofs.climb.Given as goal
 
 -- `climb` meets its contract. The invariant is `Climbing`; the measure, the places left and the letters left in the last of them.

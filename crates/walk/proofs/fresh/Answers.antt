@@ -1,8 +1,6 @@
 use mathlib.Core.Path.{◌≡◌, refl, sym}
-use Prim.Native.Nat.{◌≤◌, ◌<◌, ◌*◌, ◌-◌}
 use native.Mathlib.Omega.{arith}
-use lib.ListN.{length, length-set}
-use Rattle.walk.specs.Counts.{wiped}
+use lib.ListN.{length-set}
 use Rattle.walk.proofs.Counts.{wiped_none, wiped_more}
 use Rattle.walk.proofs.fresh.Goals as goal
 

@@ -1,9 +1,7 @@
-use mathlib.Core.Path.{◌≡◌, refl, sym}
+use mathlib.Core.Path.{◌≡◌}
 use Prim.Native.Nat.{◌≤◌, ◌<◌, ◌*◌, ◌-◌}
-use native.Mathlib.Omega.{arith}
-use lib.ListN.{length, length-set}
+use lib.ListN.{length}
 use Rattle.walk.specs.Counts.{wiped}
-use Rattle.walk.proofs.Counts.{wiped_none, wiped_more}
 use Rattle.walk.proofs.fresh.Given as goal
 
 -- `fresh` meets its contract. The invariant: i counts are forgotten.

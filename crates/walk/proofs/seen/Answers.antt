@@ -1,6 +1,5 @@
 use borrow.Author.Tests.{eq-eqb, ne_eqb}
 use Rattle.walk.specs.Counts.{seen_at}
-use borrow.Author.Rules.{rules}
 use Rattle.walk.proofs.seen.Goals as goal
 
 pub returns-then-s-eq0 : goal.returns-then-s-eq0

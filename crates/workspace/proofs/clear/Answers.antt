@@ -1,7 +1,6 @@
-use mathlib.Core.Path.{◌≡◌, ap, ◌∙◌}
-use Prim.Native.Nat.{◌≤◌, ◌-◌}
+use mathlib.Core.Path.{ap, ◌∙◌}
 use native.Mathlib.Omega.{arith}
-use lib.ListN.{length, set, length-set}
+use lib.ListN.{set, length-set}
 use borrow.Author.Rules.{rules}
 use Rattle.paper.specs.Answers.{words, zeroed}
 use Rattle.workspace.proofs.Bits.{zeroed_none, zeroed_more}

@@ -1,10 +1,7 @@
-use mathlib.Core.Path.{◌≡◌, ap, ◌∙◌}
+use mathlib.Core.Path.{◌≡◌}
 use Prim.Native.Nat.{◌≤◌, ◌-◌}
-use native.Mathlib.Omega.{arith}
-use lib.ListN.{length, set, length-set}
-use borrow.Author.Rules.{rules}
-use Rattle.paper.specs.Answers.{words, zeroed}
-use Rattle.workspace.proofs.Bits.{zeroed_none, zeroed_more}
+use lib.ListN.{length}
+use Rattle.paper.specs.Answers.{zeroed}
 use Rattle.workspace.proofs.clear.Given as goal
 
 -- the first i words are zero, the others as they were

@@ -1,4 +1,3 @@
-use borrow.Author.Rules.{rules}
 use Rattle.workspace.specs.Bits.{copied}
 use Rattle.workspace.proofs.copy.Goals as goal
 

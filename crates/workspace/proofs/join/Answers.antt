@@ -1,4 +1,3 @@
-use borrow.Author.Rules.{rules}
 use Rattle.workspace.specs.Bits.{joined}
 use Rattle.workspace.proofs.join.Goals as goal
 

@@ -1,7 +1,3 @@
-use mathlib.Core.Path.{refl}
-use native.Mathlib.Omega.{arith}
-use lib.ListN.{length-set}
-use borrow.Author.Rules.{rules}
 use Rattle.workspace.specs.Bits.{four_at, joined}
 use Rattle.workspace.proofs.Room.{merge_still, merge_new}
 use Rattle.workspace.proofs.merge.Goals as goal

@@ -1,10 +1,7 @@
 use mathlib.Core.Path.{◌≡◌}
 use mathlib.Core.Bool.{false}
 use Prim.Native.Nat.{ℕ, ◌≤◌, ◌<◌, ◌-◌}
-use native.Mathlib.Omega.{arith}
-use borrow.Author.Count.{below_more}
 use Rattle.workspace.specs.Scan.{in_both}
-use Rattle.workspace.proofs.Scan.{here, not_here, passed}
 use Rattle.workspace.proofs.next.Given as goal
 
 -- `next` meets its contract. The invariant: no row was passed.

@@ -1,5 +1,4 @@
 use mathlib.Core.Path.{refl}
-use borrow.Author.Rules.{rules}
 use Rattle.workspace.specs.Bits.{none_at}
 use Rattle.workspace.proofs.none.Goals as goal
 

@@ -1,6 +1,5 @@
 use mathlib.Core.Path.{refl}
 use Rattle.workspace.specs.Bits.{put_bit}
-use borrow.Author.Rules.{rules}
 use Rattle.workspace.proofs.put.Goals as goal
 
 pub returns-then-on : goal.returns-then-on

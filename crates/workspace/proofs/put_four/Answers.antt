@@ -1,7 +1,6 @@
 use mathlib.Core.Path.{refl}
 use native.Mathlib.Omega.{arith}
 use lib.ListN.{length-set}
-use borrow.Author.Rules.{rules}
 use Rattle.workspace.specs.Bits.{four_at}
 use Rattle.workspace.proofs.put_four.Goals as goal
 

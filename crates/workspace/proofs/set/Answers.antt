@@ -1,4 +1,3 @@
-use borrow.Author.Rules.{rules}
 use Rattle.workspace.proofs.Bits.{set_is}
 use Rattle.workspace.proofs.set.Goals as goal
 

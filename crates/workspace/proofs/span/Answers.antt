@@ -1,6 +1,5 @@
 use Prim.Native.Nat.{◌+◌}
 use native.Mathlib.Omega.{arith}
-use borrow.Author.Rules.{rules}
 use Rattle.workspace.specs.Spans.{span_at}
 use Rattle.workspace.proofs.Spans.{tri_twice, tri_is, span_lt}
 use Rattle.workspace.proofs.span.Goals as goal

@@ -1,4 +1,3 @@
-use borrow.Author.Rules.{rules}
 use Rattle.workspace.specs.Bits.{wiped}
 use Rattle.workspace.proofs.wipe.Goals as goal
 

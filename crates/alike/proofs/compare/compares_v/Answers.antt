@@ -1,5 +1,4 @@
 use Rattle.alike.specs.Untold.{compares_v}
-use borrow.Author.Rules.{rules}
 use Rattle.alike.proofs.compare.compares_v.Goals as goal
 
 pub uses_v-requires-then-uses_v : goal.uses_v-requires-then-uses_v

@@ -5,7 +5,6 @@ use Rattle.sheet_contents.specs.Read.{as_part}
 use Rattle.sheet.proofs.Contents.{part_here}
 use Rattle.sheet.proofs.Records.{record_below}
 use Rattle.alike.specs.Untold.{of_v}
-use borrow.Author.Rules.{rules}
 use Rattle.alike.proofs.compare.of_v.Goals.{After-part_at-p}
 use Rattle.alike.proofs.compare.of_v.Goals as goal
 

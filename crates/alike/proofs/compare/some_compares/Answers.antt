@@ -1,6 +1,5 @@
-use Prim.Native.Nat.{ℕ, ◌-◌, ◌≤◌}
+use Prim.Native.Nat.{ℕ}
 use mathlib.Core.Path.{◌≡◌, sym, ap, ◌∙◌}
-use mathlib.Core.Bool.{false}
 use Rattle.paper.specs.Tests.{any_below}
 use Rattle.paper.specs.Trailer.{count_of}
 use Rattle.paper.specs.Sheet.{of_table, assertion_at, sheet_of}

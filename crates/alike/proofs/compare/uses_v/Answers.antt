@@ -1,6 +1,5 @@
-use Prim.Native.Nat.{ℕ, ◌-◌, ◌≤◌}
+use Prim.Native.Nat.{ℕ}
 use mathlib.Core.Path.{◌≡◌, sym, ap, ◌∙◌}
-use mathlib.Core.Bool.{false}
 use Rattle.paper.specs.Tests.{any_below}
 use Rattle.paper.specs.Sheet.{sheet_of}
 use Rattle.paper.proofs.Tests.{any_none, any_intro}
@@ -8,7 +7,6 @@ use Rattle.sheet_contents.specs.Read.{as_run}
 use Rattle.sheet.proofs.Contents.{none_more}
 use Rattle.alike.specs.Untold.{uses_v}
 use Rattle.alike.proofs.Comparing.{in_term, uses_below}
-use borrow.Author.Rules.{rules}
 use native.Mathlib.Omega.{arith}
 use Rattle.alike.proofs.compare.uses_v.Goals.{Start}
 use Rattle.alike.proofs.compare.uses_v.Goals as goal

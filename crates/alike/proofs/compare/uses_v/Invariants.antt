@@ -1,15 +1,8 @@
-use Prim.Native.Nat.{ℕ, ◌-◌, ◌≤◌}
-use mathlib.Core.Path.{◌≡◌, sym, ap, ◌∙◌}
+use Prim.Native.Nat.{◌-◌, ◌≤◌}
+use mathlib.Core.Path.{◌≡◌}
 use mathlib.Core.Bool.{false}
 use Rattle.paper.specs.Tests.{any_below}
-use Rattle.paper.specs.Sheet.{sheet_of}
-use Rattle.paper.proofs.Tests.{any_none, any_intro}
-use Rattle.sheet_contents.specs.Read.{as_run}
-use Rattle.sheet.proofs.Contents.{none_more}
-use Rattle.alike.specs.Untold.{uses_v}
-use Rattle.alike.proofs.Comparing.{in_term, uses_below}
-use borrow.Author.Rules.{rules}
-use native.Mathlib.Omega.{arith}
+use Rattle.alike.proofs.Comparing.{in_term}
 use Rattle.alike.proofs.compare.uses_v.Given as goal
 
 -- none of the run's first k parts is of v

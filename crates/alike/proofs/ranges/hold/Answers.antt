@@ -1,6 +1,5 @@
-use Prim.Native.Nat.{◌+◌, ◌-◌, ◌≤◌}
+use Prim.Native.Nat.{◌+◌}
 use mathlib.Core.Path.{◌≡◌}
-use Rattle.alike.specs.Slots.{between, Added}
 use Rattle.alike.proofs.Holding.{added_start, added_more, added_range}
 use native.Mathlib.Omega.{arith}
 use Rattle.alike.proofs.ranges.hold.Goals as goal

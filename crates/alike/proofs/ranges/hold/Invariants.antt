@@ -1,8 +1,5 @@
 use Prim.Native.Nat.{◌+◌, ◌-◌, ◌≤◌}
-use mathlib.Core.Path.{◌≡◌}
 use Rattle.alike.specs.Slots.{between, Added}
-use Rattle.alike.proofs.Holding.{added_start, added_more, added_range}
-use native.Mathlib.Omega.{arith}
 use Rattle.alike.proofs.ranges.hold.Given as goal
 
 -- row r is in the entries of the bytes from lo on that are below x

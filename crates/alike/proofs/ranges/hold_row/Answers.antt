@@ -9,13 +9,12 @@ use Rattle.sheet_contents.specs.Ranges.{holds_byte}
 use Rattle.sheet.proofs.Records.{record_below}
 use Rattle.alike.specs.Slots.{Added}
 use Rattle.alike.proofs.Holding.{added_none}
-use borrow.Author.Rules.{rules}
 use Rattle.alike.proofs.ranges.hold_row.Goals.{After-row_at-x}
 use Rattle.alike.proofs.ranges.hold_row.Goals as goal
 
 -- a row of another kind is in no entry
 none : (c : After-row_at-x) → ((b : ℕ) → holds_byte (as_row c.row_at-x.result) b ≡ false)
- → Added (holds_byte (row (grammar_of c.args.s.now) c.args.r)) c.args.r c.args.ws.now c.args.ws.now
+    → Added (holds_byte (row (grammar_of c.args.s.now) c.args.r)) c.args.r c.args.ws.now c.args.ws.now
 none c h = added_none _ _ _ (λ b. rw (← c.row_at-x.ensures.same) (h b))
 
 pub hold-requires : goal.hold-requires

@@ -1,8 +1,5 @@
-use Prim.Native.Nat.{◌-◌, ◌≤◌}
 use mathlib.Core.Path.{◌≡◌, sym, ◌∙◌}
 use Rattle.paper.specs.Trailer.{count_of}
-use Rattle.paper.specs.Sheet.{grammar_of}
-use Rattle.alike.specs.Slots.{Holders}
 use Rattle.alike.proofs.Holding.{holders_more}
 use native.Mathlib.Omega.{arith}
 use Rattle.alike.proofs.ranges.hold_rows.Goals as goal

@@ -1,10 +1,6 @@
 use Prim.Native.Nat.{◌-◌, ◌≤◌}
-use mathlib.Core.Path.{◌≡◌, sym, ◌∙◌}
-use Rattle.paper.specs.Trailer.{count_of}
 use Rattle.paper.specs.Sheet.{grammar_of}
 use Rattle.alike.specs.Slots.{Holders}
-use Rattle.alike.proofs.Holding.{holders_more}
-use native.Mathlib.Omega.{arith}
 use Rattle.alike.proofs.ranges.hold_rows.Given as goal
 
 -- the rows below r are in the entries of the bytes that they hold

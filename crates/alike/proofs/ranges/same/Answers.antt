@@ -2,7 +2,6 @@ use mathlib.Core.Path.{sym}
 use mathlib.Core.Bool.{true≢false}
 use borrow.Author.Tests.{eqb-true}
 use Rattle.alike.proofs.Holding.{words_same}
-use borrow.Author.Rules.{rules}
 use Rattle.alike.proofs.ranges.same.Goals as goal
 
 pub returns-then-ws-i : goal.returns-then-ws-i

@@ -1,4 +1,3 @@
-use borrow.Author.Rules.{rules}
 use borrow.Author.Tests.{lt-ltb, le-ltb}
 use Rattle.chart.specs.Cells.{can_hold}
 use Rattle.chart.proofs.singles.can_hold.Goals as goal

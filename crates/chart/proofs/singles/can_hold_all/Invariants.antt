@@ -1,11 +1,8 @@
-use mathlib.Core.Path.{◌≡◌, sym, ◌∙◌}
+use mathlib.Core.Path.{◌≡◌}
 use mathlib.Core.Bool.{true}
 use Prim.Native.Nat.{ℕ, ◌≤◌, ◌<◌, ◌+◌, ◌-◌}
-use native.Mathlib.Omega.{arith}
 use lib.ListN.{length, get_or}
-use borrow.Author.Count.{below_more}
-use Rattle.paper.proofs.Tests.{all_intro, all_but}
-use Rattle.chart.specs.Cells.{can_hold, can_hold_all}
+use Rattle.chart.specs.Cells.{can_hold}
 use Rattle.chart.proofs.singles.can_hold_all.Given as goal
 
 -- the places passed can hold their bytes

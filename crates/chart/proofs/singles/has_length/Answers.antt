@@ -1,4 +1,3 @@
-use borrow.Author.Rules.{rules}
 use lib.Bits.{and_mask}
 use Rattle.workspace.specs.Bits.{bit}
 use Rattle.chart.proofs.singles.has_length.Goals as goal

@@ -1,6 +1,5 @@
 use borrow.Author.Tests.{le-leb, lt-leb}
 use Rattle.sheet_contents.specs.Ranges.{holds_byte}
-use borrow.Author.Rules.{rules}
 use Rattle.chart.proofs.singles.holds.Goals as goal
 
 pub returns-then-low-x : goal.returns-then-low-x

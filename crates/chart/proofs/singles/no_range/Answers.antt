@@ -1,6 +1,5 @@
 use mathlib.Core.Path.{sym, ◌∙◌}
 use Rattle.chart.specs.Cells.{no_range}
-use borrow.Author.Rules.{rules}
 use Rattle.chart.proofs.singles.no_range.Goals as goal
 
 pub returns-then-none : goal.returns-then-none

@@ -1,4 +1,4 @@
-use Prim.Native.Nat.{ℕ, ◌≤◌, ◌-◌}
+use Prim.Native.Nat.{ℕ}
 use mathlib.Core.Path.{sym, ap, ◌∙◌, subst}
 use Rattle.paper.specs.Sheet.{grammar_of}
 use Rattle.sheet.proofs.Rows.{rows_few}
@@ -7,7 +7,6 @@ use Rattle.chart_cells.proofs.Adding.{adds_none}
 use Rattle.chart.specs.Cells.{holding, among}
 use Rattle.chart.proofs.Owning.{among_none, among_turn}
 use Rattle.chart.proofs.Rows.{no_holding}
-use borrow.Author.Rules.{rules}
 use native.Mathlib.Omega.{arith}
 use Rattle.chart.proofs.singles.ranges.Goals as goal
 

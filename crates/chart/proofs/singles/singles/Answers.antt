@@ -2,7 +2,6 @@ use Rattle.sheet.proofs.Rows.{rows_all}
 use Rattle.chart_cells.proofs.Adding.{adds_none, adds_same, adds_joined}
 use Rattle.chart.proofs.Owning.{long_range}
 use Rattle.chart.proofs.Rows.{known_single, unknown_single}
-use borrow.Author.Rules.{rules}
 use native.Mathlib.Omega.{arith}
 use Rattle.chart.proofs.singles.singles.Goals as goal
 

@@ -5,7 +5,6 @@ use borrow.Author.Tests.{eq-eqb, ne_eqb}
 use Rattle.sheet.proofs.Contents.{text_length, text_few}
 use Rattle.chart.specs.Cells.{fitting}
 use Rattle.chart.proofs.Rows.{part_size, part_fits}
-use borrow.Author.Rules.{rules}
 use native.Mathlib.Omega.{arith}
 use Rattle.chart.proofs.singles.text_fits.Goals.{In-Text}
 use Rattle.chart.proofs.singles.text_fits.Goals as goal

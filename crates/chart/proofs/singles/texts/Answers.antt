@@ -1,6 +1,5 @@
-use Prim.Native.Nat.{ℕ, ◌≤◌, ◌-◌}
+use Prim.Native.Nat.{ℕ}
 use mathlib.Core.Path.{sym, ◌∙◌, subst}
-use borrow.Author.Tests.{not-true}
 use Rattle.paper.specs.Sheet.{grammar_of, text_of}
 use Rattle.sheet.proofs.Rows.{rows_few, rows_all}
 use Rattle.chart_cells.specs.Steps.{Adds}

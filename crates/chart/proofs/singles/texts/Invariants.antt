@@ -1,14 +1,7 @@
-use Prim.Native.Nat.{ℕ, ◌≤◌, ◌-◌}
-use mathlib.Core.Path.{sym, ◌∙◌, subst}
-use borrow.Author.Tests.{not-true}
+use Prim.Native.Nat.{◌≤◌, ◌-◌}
 use Rattle.paper.specs.Sheet.{grammar_of, text_of}
-use Rattle.sheet.proofs.Rows.{rows_few, rows_all}
 use Rattle.chart_cells.specs.Steps.{Adds}
-use Rattle.chart_cells.proofs.Adding.{adds_none, adds_same}
 use Rattle.chart.specs.Cells.{allowed, fitting, among}
-use Rattle.chart.proofs.Owning.{among_none, among_turn}
-use Rattle.chart.proofs.Rows.{texts_passed, texts_none}
-use native.Mathlib.Omega.{arith}
 use Rattle.chart.proofs.singles.texts.Given as goal
 
 -- the texts among the rows below q are in

@@ -1,9 +1,7 @@
-use Prim.Native.Nat.{ℕ, suc, ◌-◌, ◌<◌, ◌≤◌}
-use mathlib.Core.Path.{◌≡◌, sym, ◌∙◌}
-use mathlib.Core.Bool.{false}
+use mathlib.Core.Path.{sym, ◌∙◌}
 use borrow.Author.Count.{below_more}
 use Rattle.paper.specs.Sheet.{sheet_of}
-use Rattle.judge.proofs.Claiming.{stands, here, nowhere}
+use Rattle.judge.proofs.Claiming.{here, nowhere}
 use native.Mathlib.Omega.{arith}
 use Rattle.judge.proofs.claims.can_contain.Goals as goal
 

@@ -1,10 +1,8 @@
 use Prim.Native.Nat.{ℕ, suc, ◌-◌, ◌<◌, ◌≤◌}
-use mathlib.Core.Path.{◌≡◌, sym, ◌∙◌}
+use mathlib.Core.Path.{◌≡◌}
 use mathlib.Core.Bool.{false}
-use borrow.Author.Count.{below_more}
 use Rattle.paper.specs.Sheet.{sheet_of}
-use Rattle.judge.proofs.Claiming.{stands, here, nowhere}
-use native.Mathlib.Omega.{arith}
+use Rattle.judge.proofs.Claiming.{stands}
 use Rattle.judge.proofs.claims.can_contain.Given as goal
 
 -- the constant stands at none of the first i places

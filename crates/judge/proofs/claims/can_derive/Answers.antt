@@ -1,6 +1,5 @@
 use native.Mathlib.Omega.{arith}
 use Rattle.judge.proofs.Holding.{charts_filled, derived}
-use borrow.Author.Rules.{rules}
 use Rattle.judge.proofs.claims.can_derive.Goals as goal
 
 pub table_of-rows-requires : goal.table_of-rows-requires

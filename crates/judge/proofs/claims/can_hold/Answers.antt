@@ -2,7 +2,6 @@ use mathlib.Core.Path.{refl}
 use native.Mathlib.Omega.{arith}
 use Rattle.chart.proofs.Filling.{within_none}
 use Rattle.terms.specs.Shown.{shown}
-use borrow.Author.Rules.{rules}
 use Rattle.judge.proofs.claims.can_hold.Goals as goal
 
 pub derive_from-requires : goal.derive_from-requires

@@ -3,7 +3,6 @@ use mathlib.Core.Path.{◌≡◌}
 use native.Mathlib.Omega.{arith}
 use Rattle.chart.proofs.Filling.{within_none}
 use Rattle.judge.proofs.Holding.{charts_filled, derived_first}
-use borrow.Author.Rules.{rules}
 use Rattle.judge.proofs.claims.derive_from.Goals as goal
 
 pub derives-requires : goal.derives-requires

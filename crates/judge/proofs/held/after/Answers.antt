@@ -1,5 +1,4 @@
 use Rattle.judge.specs.Charts.{held_of, after_of}
-use borrow.Author.Rules.{rules}
 use Rattle.judge.proofs.held.after.Goals as goal
 
 pub returns-in-Derived : goal.returns-in-Derived

@@ -1,5 +1,4 @@
 use borrow.Author.Tests.{le-leb, lt-leb}
-use borrow.Author.Rules.{rules}
 use Rattle.list.proofs.fields.counts_ok.Goals as goal
 
 pub returns-then-n-gt60 : goal.returns-then-n-gt60

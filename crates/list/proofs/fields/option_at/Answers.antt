@@ -3,7 +3,6 @@ use Prim.Native.Nat.{◌≤◌}
 use Rattle.list.proofs.OptionLaws.{nil_kind}
 use Rattle.paper.specs.Bytes.{u8_at}
 use Rattle.paper.specs.Gate.{opt_of}
-use borrow.Author.Rules.{rules}
 use Rattle.list.proofs.fields.option_at.Goals as goal
 
 pub returns-in-1 : goal.returns-in-1

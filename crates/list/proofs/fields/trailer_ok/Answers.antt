@@ -1,6 +1,5 @@
-use borrow.Author.Tests.{eq-eqb, ne_eqb, not-true, not-false}
+use borrow.Author.Tests.{eq-eqb, ne_eqb}
 use Rattle.paper.specs.Gate.{trailer_ok}
-use borrow.Author.Rules.{rules}
 use Rattle.list.proofs.fields.trailer_ok.Goals as goal
 
 pub returns-then-not-mark_ok : goal.returns-then-not-mark_ok

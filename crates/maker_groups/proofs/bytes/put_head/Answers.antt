@@ -1,7 +1,6 @@
 use Rattle.paper.specs.Bytes.{u16}
 use Rattle.paper.specs.Cuts.{head_bytes}
 use Rattle.numbers.proofs.Stores.{put_more}
-use borrow.Author.Rules.{rules}
 use Rattle.maker_groups.proofs.bytes.put_head.Goals as goal
 
 pub returns : goal.returns

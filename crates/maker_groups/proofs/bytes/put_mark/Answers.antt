@@ -1,6 +1,5 @@
 use Rattle.maker_groups.specs.Parts.{mark}
 use Rattle.numbers.proofs.Stores.{put_more}
-use borrow.Author.Rules.{rules}
 use Rattle.maker_groups.proofs.bytes.put_mark.Goals as goal
 
 pub returns : goal.returns

@@ -1,7 +1,6 @@
 use Rattle.paper.specs.Bytes.{u16}
 use Rattle.numbers.proofs.Stores.{put_more}
 use Rattle.maker_groups.specs.Parts.{field_bytes}
-use borrow.Author.Rules.{rules}
 use Rattle.maker_groups.proofs.bytes.put_option.Goals as goal
 
 pub returns : goal.returns

@@ -1,11 +1,8 @@
 use borrow.Author.Rules.{rules}
-use Prim.Native.Nat.{◌+◌, ◌≤◌, ◌-◌}
-use mathlib.Core.Path.{◌≡◌}
+use Prim.Native.Nat.{◌+◌}
 use native.Mathlib.Omega.{arith}
-use lib.ListN.{length}
 use Rattle.paper.specs.Sheet.{grammar_of}
 use Rattle.maker_options.specs.Giving.{giving}
-use Rattle.maker_options.specs.Prepared.{Entry}
 use Rattle.maker_options.proofs.Entries.{entry_start, entry_turn, entry_length, entry_done, giving_is}
 use Rattle.maker_options.proofs.Turns.{job_few}
 use Rattle.maker_options.proofs.ready.give.Goals as goal

@@ -1,8 +1,7 @@
 use borrow.Author.Rules.{rules}
-use Prim.Native.Nat.{ℕ, ◌+◌, ◌≤◌, ◌-◌}
+use Prim.Native.Nat.{ℕ, ◌+◌}
 use mathlib.Core.Path.{◌≡◌, subst}
 use native.Mathlib.Omega.{arith}
-use lib.ListN.{length}
 use Rattle.paper.specs.Sheet.{grammar_of}
 use Rattle.maker_options.specs.Prepared.{Given}
 use Rattle.maker_options.proofs.Turns.{job_rows}

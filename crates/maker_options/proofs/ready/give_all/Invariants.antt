@@ -1,12 +1,8 @@
-use borrow.Author.Rules.{rules}
-use Prim.Native.Nat.{ℕ, ◌+◌, ◌≤◌, ◌-◌}
-use mathlib.Core.Path.{◌≡◌, subst}
-use native.Mathlib.Omega.{arith}
+use Prim.Native.Nat.{◌+◌, ◌≤◌, ◌-◌}
+use mathlib.Core.Path.{◌≡◌}
 use lib.ListN.{length}
 use Rattle.paper.specs.Sheet.{grammar_of}
 use Rattle.maker_options.specs.Prepared.{Given}
-use Rattle.maker_options.proofs.Turns.{job_rows}
-use Rattle.maker_options.proofs.Entries.{given_none, given_more}
 use Rattle.maker_options.proofs.ready.give_all.Given as goal
 
 -- the lengths below m have their entries

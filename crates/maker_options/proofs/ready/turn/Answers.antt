@@ -1,8 +1,7 @@
 use borrow.Author.Rules.{rules}
-use Prim.Native.Nat.{ℕ, ◌≤◌, ◌-◌}
+use Prim.Native.Nat.{ℕ}
 use mathlib.Core.Path.{◌≡◌, subst}
 use native.Mathlib.Omega.{arith}
-use lib.ListN.{length}
 use Rattle.maker_options.specs.Prepared.{Turned}
 use Rattle.maker_options.proofs.Entries.{turned_none, turned_more}
 use Rattle.maker_options.proofs.ready.turn.Goals as goal

@@ -1,10 +1,7 @@
-use borrow.Author.Rules.{rules}
-use Prim.Native.Nat.{ℕ, ◌≤◌, ◌-◌}
-use mathlib.Core.Path.{◌≡◌, subst}
-use native.Mathlib.Omega.{arith}
+use Prim.Native.Nat.{◌≤◌, ◌-◌}
+use mathlib.Core.Path.{◌≡◌}
 use lib.ListN.{length}
 use Rattle.maker_options.specs.Prepared.{Turned}
-use Rattle.maker_options.proofs.Entries.{turned_none, turned_more}
 use Rattle.maker_options.proofs.ready.turn.Given as goal
 
 -- the rows below r have their entries

@@ -1,9 +1,6 @@
 use borrow.Author.Rules.{rules}
-use Prim.Native.Nat.{◌≤◌, ◌-◌}
-use mathlib.Core.Path.{◌≡◌}
 use native.Mathlib.Omega.{arith}
-use lib.ListN.{length}
-use Rattle.maker_options.specs.Prepared.{Entry, across}
+use Rattle.maker_options.specs.Prepared.{across}
 use Rattle.maker_options.proofs.Entries.{entry_start, entry_turn, entry_length, entry_done}
 use Rattle.maker_options.proofs.ready.turn_row.Goals as goal
 

@@ -1,11 +1,9 @@
-use Prim.Native.Nat.{ℕ, ◌+◌, ◌*◌, ◌≤◌, ◌-◌}
-use mathlib.Core.Path.{◌≡◌, ap, ◌∙◌}
-use native.Mathlib.Omega.{arith}
+use Prim.Native.Nat.{◌≤◌, ◌-◌}
+use mathlib.Core.Path.{◌≡◌}
 use lib.ListN.{length}
 use Rattle.paper.specs.Tests.{gather}
 use Rattle.paper.specs.Sheet.{grammar_of}
-use Rattle.paper.specs.Cuts.{entry, group}
-use Rattle.maker_options.proofs.Turns.{job_few, entries_none, count_room, count_more, job_rows, rows_end}
+use Rattle.paper.specs.Cuts.{entry}
 use Rattle.maker_options.proofs.sizes.group_length.Given as goal
 
 -- the entries of the rows below r are counted

@@ -1,12 +1,9 @@
-use borrow.Author.Rules.{rules}
-use Prim.Native.Nat.{ℕ, ◌+◌, ◌≤◌, ◌-◌}
-use mathlib.Core.Path.{◌≡◌, ap, ◌∙◌, subst}
-use native.Mathlib.Omega.{arith}
-use lib.ListN.{length, length-set}
+use Prim.Native.Nat.{◌+◌, ◌≤◌, ◌-◌}
+use mathlib.Core.Path.{◌≡◌}
+use lib.ListN.{length}
 use Rattle.paper.specs.Sheet.{grammar_of}
 use Rattle.paper.specs.Cuts.{groups}
 use Rattle.maker_options.specs.Prepared.{Offsets}
-use Rattle.maker_options.proofs.Turns.{groups_none, groups_more, groups_inside, groups_bound, offset_more}
 use Rattle.maker_options.proofs.sizes.measure.Given as goal
 
 -- the groups below m are counted, and each one's start is noted

@@ -1,11 +1,6 @@
-use Prim.Native.Nat.{◌≤◌, ◌<◌, ◌-◌}
-use mathlib.Core.Path.{◌≡◌, sym, ap, ◌∙◌}
-use mathlib.Core.Bool.{true}
+use mathlib.Core.Path.{sym, ap, ◌∙◌}
 use native.Mathlib.Omega.{arith}
 use lib.ListN.{length}
-use Rattle.paper.specs.Sheet.{grammar_of}
-use Rattle.maker_options.specs.Giving.{from_below}
-use Rattle.maker_options.specs.Prepared.{chosen}
 use Rattle.maker_options.proofs.Turns.{job_few, options_bound, nil_some, nil_none, met_first, met_length, met_all, met_inside}
 use Rattle.maker_options.proofs.sizes.option_count.Goals as goal
 

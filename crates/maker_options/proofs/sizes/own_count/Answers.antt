@@ -1,7 +1,6 @@
 use borrow.Author.Tests.{eq-eqb, ne_eqb}
 use Rattle.paper.specs.Cuts.{own_opts}
 use Rattle.maker_options.proofs.Options.{splits_length}
-use borrow.Author.Rules.{rules}
 use Rattle.maker_options.proofs.sizes.own_count.Goals as goal
 
 pub returns-then-m-eq1 : goal.returns-then-m-eq1

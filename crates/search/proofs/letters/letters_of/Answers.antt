@@ -1,9 +1,9 @@
-use Prim.Native.Nat.{◌+◌, ◌*◌, ◌-◌, ◌≤◌}
+use Prim.Native.Nat.{◌+◌, ◌*◌, ◌≤◌}
 use mathlib.Core.Path.{◌≡◌}
 use lib.ListN.{length}
 use Rattle.paper.specs.Trailer.{count_of}
 use Rattle.sheet.proofs.Records.{record_room}
-use Rattle.search.proofs.Lettered.{RangesTo, ranges_start, ranges_more, ranges_end}
+use Rattle.search.proofs.Lettered.{ranges_start, ranges_more, ranges_end}
 use native.Mathlib.Omega.{arith}
 use Rattle.search.proofs.letters.letters_of.Goals.{After-table_of-t, In-loop-i}
 use Rattle.search.proofs.letters.letters_of.Goals as goal

@@ -1,10 +1,5 @@
-use Prim.Native.Nat.{◌+◌, ◌*◌, ◌-◌, ◌≤◌}
-use mathlib.Core.Path.{◌≡◌}
-use lib.ListN.{length}
-use Rattle.paper.specs.Trailer.{count_of}
-use Rattle.sheet.proofs.Records.{record_room}
-use Rattle.search.proofs.Lettered.{RangesTo, ranges_start, ranges_more, ranges_end}
-use native.Mathlib.Omega.{arith}
+use Prim.Native.Nat.{◌-◌, ◌≤◌}
+use Rattle.search.proofs.Lettered.{RangesTo}
 use Rattle.search.proofs.letters.letters_of.Given as goal
 
 -- the letters are those of the first i ranges

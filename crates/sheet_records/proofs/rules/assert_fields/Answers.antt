@@ -1,5 +1,4 @@
 use native.Mathlib.Omega.{arith}
-use borrow.Author.Rules.{rules}
 use borrow.Author.Tests.{ne_eqb, lt-ltb, le-ltb}
 use Rattle.paper.specs.Records.{assert_fields}
 use Rattle.sheet_records.proofs.rules.assert_fields.Goals as goal

@@ -1,5 +1,4 @@
 use borrow.Author.Tests.{ne_eqb, le-leb, lt-leb}
-use borrow.Author.Rules.{rules}
 use Rattle.paper.specs.Records.{assert_ok}
 use Rattle.sheet_records.proofs.rules.assert_ok.Goals as goal
 

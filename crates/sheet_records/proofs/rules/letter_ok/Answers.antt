@@ -1,5 +1,4 @@
 use mathlib.Core.Path.{refl}
-use borrow.Author.Rules.{rules}
 use Rattle.paper.specs.Records.{letter_ok}
 use Rattle.sheet_records.proofs.rules.letter_ok.Goals as goal
 

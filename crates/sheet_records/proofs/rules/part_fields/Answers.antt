@@ -1,6 +1,5 @@
 use native.Mathlib.Omega.{arith}
 use borrow.Author.Tests.{ne_eqb}
-use borrow.Author.Rules.{rules}
 use Rattle.paper.specs.Records.{part_fields}
 use Rattle.sheet_records.proofs.rules.part_fields.Goals as goal
 

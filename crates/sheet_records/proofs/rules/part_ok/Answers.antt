@@ -1,5 +1,4 @@
 use borrow.Author.Tests.{ne_eqb}
-use borrow.Author.Rules.{rules}
 use Rattle.paper.specs.Records.{part_ok}
 use Rattle.sheet_records.proofs.rules.part_ok.Goals as goal
 

@@ -1,5 +1,4 @@
 use borrow.Author.Tests.{ne_eqb}
-use borrow.Author.Rules.{rules}
 use Rattle.paper.specs.Records.{row_ok}
 use Rattle.sheet_records.proofs.rules.row_ok.Goals as goal
 

@@ -1,14 +1,8 @@
-use Prim.Native.Nat.{◌+◌, ◌≤◌}
-use mathlib.Core.Path.{◌≡◌, sym, ap, subst}
-use native.Mathlib.Omega.{arith}
-use borrow.Author.Tests.{not-true, not-false}
 use Rattle.paper.specs.Trailer.{count_of}
-use Rattle.paper.specs.Sheet.{Assertion, assertion_at}
 use Rattle.paper.specs.Records.{assert_fits}
 use Rattle.paper.proofs.Sound.{SoundAssertion}
 use Rattle.sheet_contents.specs.Read.{as_assertion}
 use Rattle.sheet_records.proofs.Kept.{assertion_sound}
-use borrow.Author.Rules.{rules}
 use Rattle.sheet_records.proofs.terms.assert_fits.Goals.{After-assertion_at-a}
 use Rattle.sheet_records.proofs.terms.assert_fits.Goals as goal
 

@@ -1,11 +1,8 @@
-use Prim.Native.Nat.{ℕ, ◌+◌, ◌*◌, ◌-◌, ◌<◌, ◌≤◌}
+use Prim.Native.Nat.{◌+◌, ◌*◌, ◌<◌, ◌≤◌}
 use mathlib.Core.Path.{◌≡◌, sym, ◌∙◌}
-use mathlib.Core.Bool.{Bool}
-use mathlib.Core.List.{List}
 use lib.ListN.{length}
-use Rattle.paper.specs.Trailer.{offset_of, count_of, record_at}
-use Rattle.paper.specs.Records.{assert_fits}
-use Rattle.sheet_trailer.proofs.Search.{Sought, start, more, stop, done}
+use Rattle.paper.specs.Trailer.{offset_of, count_of}
+use Rattle.sheet_trailer.proofs.Search.{start, more, stop, done}
 use Rattle.sheet_records.proofs.Kept.{kept}
 use native.Mathlib.Omega.{arith}
 use Rattle.sheet_records.proofs.terms.bad_term.Invariants.{good}

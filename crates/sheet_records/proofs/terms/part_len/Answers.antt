@@ -1,6 +1,5 @@
 use Rattle.paper.specs.Records.{part_len}
 use Rattle.paper.specs.Terms.{full_length}
-use borrow.Author.Rules.{rules}
 use Rattle.sheet_records.proofs.terms.part_len.Goals as goal
 
 pub returns-in-Const : goal.returns-in-Const

@@ -1,9 +1,8 @@
 use Prim.Native.Nat.{ℕ, ◌+◌, ◌*◌, ◌≤◌}
-use mathlib.Core.Path.{◌≡◌, ap}
+use mathlib.Core.Path.{ap}
 use lib.Dec.{leb}
 use lib.ListN.{length}
 use native.Mathlib.Omega.{arith}
-use Rattle.paper.specs.Trailer.{offset_of}
 use Rattle.sheet_records.proofs.terms.term_fits.Goals.{After-struct_known-1}
 use Rattle.sheet_records.proofs.terms.term_fits.Goals as goal
 

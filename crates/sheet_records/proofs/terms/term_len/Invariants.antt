@@ -1,8 +1,6 @@
 use Prim.Native.Nat.{◌*◌, ◌-◌, ◌≤◌}
-use mathlib.Core.Path.{◌≡◌, refl}
-use native.Mathlib.Numerals.{add-one}
+use mathlib.Core.Path.{◌≡◌}
 use Rattle.paper.specs.Records.{term_len}
-use native.Mathlib.Omega.{arith}
 use Rattle.sheet_records.proofs.terms.term_len.Given as goal
 
 -- `sum` is the bytes of the first i parts

@@ -1,11 +1,6 @@
-use Prim.Native.Nat.{ℕ, suc, ◌-◌, ◌<◌, ◌≤◌}
-use mathlib.Core.Path.{◌≡◌, sym, ◌∙◌}
-use mathlib.Core.Bool.{false}
+use mathlib.Core.Path.{sym, ◌∙◌}
 use borrow.Author.Count.{below_more}
 use native.Mathlib.Omega.{arith}
-use Rattle.paper.specs.Sheet.{Sheet}
-use Rattle.groundwork.specs.Ground.{Ground}
-use Rattle.terms.specs.Shown.{meet_first}
 use Rattle.terms.proofs.Meeting.{stands_here, stands_nowhere}
 use Rattle.terms.proofs.meets.contains.Goals as goal
 

@@ -1,12 +1,9 @@
 use Prim.Native.Nat.{ℕ, suc, ◌-◌, ◌<◌, ◌≤◌}
-use mathlib.Core.Path.{◌≡◌, sym, ◌∙◌}
+use mathlib.Core.Path.{◌≡◌}
 use mathlib.Core.Bool.{false}
-use borrow.Author.Count.{below_more}
-use native.Mathlib.Omega.{arith}
 use Rattle.paper.specs.Sheet.{Sheet}
 use Rattle.groundwork.specs.Ground.{Ground}
 use Rattle.terms.specs.Shown.{meet_first}
-use Rattle.terms.proofs.Meeting.{stands_here, stands_nowhere}
 use Rattle.terms.proofs.meets.contains.Given as goal
 
 -- the places of q stand over those of p from none of the first i places on

@@ -1,6 +1,5 @@
 use mathlib.Core.Path.{◌∙◌}
 use Rattle.terms.proofs.Meeting.{meet_known, meet_left, meet_right, meet_none}
-use borrow.Author.Rules.{rules}
 use Rattle.terms.proofs.meets.meet.Goals as goal
 
 pub returns-then-y-lt256 : goal.returns-then-y-lt256

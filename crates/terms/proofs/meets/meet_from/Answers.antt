@@ -1,14 +1,7 @@
-use Prim.Native.Nat.{ℕ, ◌+◌, ◌-◌, ◌<◌}
-use mathlib.Core.Path.{◌≡◌, sym, ◌∙◌}
-use mathlib.Core.Bool.{true}
+use mathlib.Core.Path.{sym, ◌∙◌}
 use borrow.Author.Count.{below_more}
-use lib.ListN.{get_or}
 use native.Mathlib.Omega.{arith}
-use Rattle.paper.specs.Sheet.{Sheet}
-use Rattle.paper.specs.Opens.{meet}
 use Rattle.paper.proofs.Tests.{all_intro, all_but}
-use Rattle.workspace.specs.Places.{place_of}
-use Rattle.groundwork.specs.Ground.{Ground}
 use Rattle.terms.specs.Shown.{meet_first}
 use Rattle.terms.proofs.meets.meet_from.Goals as goal
 

@@ -1,6 +1,5 @@
-use Prim.Native.Nat.{◌-◌}
 use borrow.Author.Count.{below_more}
-use Rattle.terms.proofs.Meeting.{NoneTo, one_unknown, none_unknown}
+use Rattle.terms.proofs.Meeting.{one_unknown, none_unknown}
 use native.Mathlib.Omega.{arith}
 use Rattle.terms.proofs.meets.some_unknown.Goals as goal
 

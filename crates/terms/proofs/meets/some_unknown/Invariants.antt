@@ -1,7 +1,5 @@
 use Prim.Native.Nat.{◌-◌}
-use borrow.Author.Count.{below_more}
-use Rattle.terms.proofs.Meeting.{NoneTo, one_unknown, none_unknown}
-use native.Mathlib.Omega.{arith}
+use Rattle.terms.proofs.Meeting.{NoneTo}
 use Rattle.terms.proofs.meets.some_unknown.Given as goal
 
 -- none of the first i places is unknown

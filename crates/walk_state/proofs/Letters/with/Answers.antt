@@ -1,10 +1,6 @@
-use mathlib.Core.Path.{◌≡◌}
-use Prim.Native.Nat.{◌≤◌, ◌<◌, ◌-◌}
 use native.Mathlib.Omega.{arith}
 use borrow.Author.Rules.{rules}
-use lib.ListN.{length}
-use Rattle.workspace.proofs.Bits.{length_set_bit}
-use Rattle.walk_state.proofs.Ranges.{JoinedTo, joined_start, joined_more, joined_end}
+use Rattle.walk_state.proofs.Ranges.{joined_start, joined_more, joined_end}
 use Rattle.walk_state.proofs.Letters.with.Goals as goal
 
 pub loop-b-init : goal.loop-b-init

@@ -1,5 +1,4 @@
 use native.Mathlib.Omega.{arith}
-use borrow.Author.Rules.{rules}
 use Rattle.walk_state.proofs.State.since.Goals as goal
 
 pub overflow_sub-result : goal.overflow_sub-result

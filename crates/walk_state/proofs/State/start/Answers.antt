@@ -1,4 +1,3 @@
-use borrow.Author.Rules.{rules}
 use Rattle.walk_state.proofs.State.start.Goals as goal
 
 pub returns : goal.returns
