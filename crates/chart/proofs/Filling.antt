@@ -20,7 +20,7 @@ use Rattle.paper.proofs.Derivation.{accepts_level}
 use Rattle.workspace.specs.Spans.{span_at}
 use Rattle.workspace.specs.Bits.{bit_at, wiped}
 use Rattle.workspace.proofs.Bits.{wiped_bit}
-use Rattle.workspace.proofs.Spans.{lt-or-le, span_inj}
+use Rattle.workspace.proofs.Spans.{lt_or_le, span_inj}
 use Rattle.groundwork.specs.Ground.{Ground}
 use Rattle.chart_cells.specs.Steps.{Kept, Adds, parted, brought, carried_in}
 use Rattle.workspace.specs.Within.{Within}
@@ -37,7 +37,7 @@ module _ (S : Sheet) (pat : Pattern) where
   -- a row that does something by itself is in the table
   own_below : (acc : Test) (m i q : ℕ) → own_row S.grammar pat acc q (row S.grammar q) m i ≡ true → q < length S.grammar.rows
   unfolding row
-  own_below acc m i q e = lt-or-le q (length S.grammar.rows) (λ h. h) (λ h. absurd (true≢false (sym (rw (get_or-eq_default S.grammar.rows no_row h) at e) ∙ no_own acc m i q)))
+  own_below acc m i q e = lt_or_le q (length S.grammar.rows) (λ h. h) (λ h. absurd (true≢false (sym (rw (get_or-eq_default S.grammar.rows no_row h) at e) ∙ no_own acc m i q)))
 
 module _ (S : Sheet) (lay : List ℕ) (ground : Ground S lay) (few : length S.grammar.rows ≤ 256) (pat : Pattern) where
   -- the rows that do something by themselves, carried back: the rows that derive the span

@@ -13,13 +13,13 @@ use Rattle.paper.proofs.Reaching.{spells_below, reaches_sound, reaches_from}
 use Rattle.paper.proofs.Derivation.{accepts_right}
 use Rattle.workspace.specs.Bits.{bit_at}
 use Rattle.workspace.proofs.Bits.{bit_past}
-use Rattle.workspace.proofs.Spans.{lt-or-le}
+use Rattle.workspace.proofs.Spans.{lt_or_le}
 use Rattle.groundwork.specs.Ground.{Ground, pair_word}
 use Rattle.chart_cells.specs.Steps.{Pairs, Chained}
 
 -- a bit that is set is a row's
 pub bit_row : (ws : List ℕ) (s r : ℕ) → bit_at ws s r ≡ true → r < 256
-bit_row ws s r e = lt-or-le r 256 (λ h. h) (λ h. absurd (true≢false (sym e ∙ bit_past ws s r h)))
+bit_row ws s r e = lt_or_le r 256 (λ h. h) (λ h. absurd (true≢false (sym e ∙ bit_past ws s r h)))
 
 reach_then : (g : Grammar) {r q p : ℕ} → Reach g r q → Reach g q p → Reach g r p
 reach_then g Reach.here y = y

@@ -58,13 +58,13 @@ module _ (m : Move) (sheet space : List ℕ) (r : WriteReport) (space' : List �
         number = moved_exactly.1 a;
         size = ap (λ (q : WriteReport). q.length) p.said ∙ rw none;
         bytes = p.wrote ∙ rw none;
-        accepted = moved_accepted sheet a.accepted a.no_rule_lem e (to_known m).0 (to_known m).1 latest (to_known m).0 (to_known m).1 (omega arith);
+        accepted = moved_accepted sheet a.accepted a.no_rule e (to_known m).0 (to_known m).1 latest (to_known m).0 (to_known m).1 (omega arith);
         wanted = moved_edition sheet (heads latest sheet a.accepted).trailed e (to_known m).0 (to_known m).1;
       }
 
 -- every accepted sheet of the first edition is moved to the second, where there is room: it has no rule
 pub first_movable : (sheet : List ℕ) (space : ℕ) → Accepted sheet → edition sheet ≡ 1 → length (in_edition 2 sheet) ≤ space → Movable ToSecond sheet space
-first_movable sheet space a e h = record { accepted = a; given = e; no_rule_lem = first_no_rule sheet e; room = h }
+first_movable sheet space a e h = record { accepted = a; given = e; no_rule = first_no_rule sheet e; room = h }
 
 -- ---- there and back
 
@@ -89,7 +89,7 @@ module _ (m : Move) (sheet space : List ℕ) (r : WriteReport) (space' : List �
   original : OfBytes sheet → in_edition (to (back m)) (in_edition (to m) sheet) ≡ sheet
   original byte =
       ap (λ (e : ℕ). in_edition e (in_edition (to m) sheet)) (back_to m ∙ sym can.given)
-      ∙ bytes.there_and_back sheet (ended sheet can.accepted can.no_rule_lem) byte (to m) (to_known m).0 (to_known m).1
+      ∙ bytes.there_and_back sheet (ended sheet can.accepted can.no_rule) byte (to m) (to_known m).0 (to_known m).1
 
   -- "THERE AND BACK gives the original bytes": the call the other way, lent the sheet written and space for the original, writes the original
   pub there_and_back : OfBytes sheet → (room : List ℕ) (q : WriteReport) (room' : List ℕ) → Moves (λ q. q) (back m) (take r.length space') room q room' → length sheet ≤ length room
@@ -99,7 +99,7 @@ module _ (m : Move) (sheet space : List ℕ) (r : WriteReport) (space' : List �
       let a : Movable (back m) (in_edition (to m) sheet) (length room) = record {
         accepted = done.accepted;
         given = done.wanted ∙ sym (back_from m);
-        no_rule_lem = moved_no_rule sheet can.accepted can.no_rule_lem (to m) (to_known m).0 (to_known m).1;
+        no_rule = moved_no_rule sheet can.accepted can.no_rule (to m) (to_known m).0 (to_known m).1;
         room = rw e h;
       } in
       let d = sheet_written (back m) (in_edition (to m) sheet) room q room' (rw there at w) a in
@@ -111,7 +111,7 @@ module _ (m : Move) (sheet space : List ℕ) (r : WriteReport) (space' : List �
   unfolding solver_says solver_refusal
   says_same budget work out =
       let a = can.accepted in
-      let n = can.no_rule_lem in
+      let n = can.no_rule in
       rw (eq-eqb (refusal latest sheet).number 0 a, eq-eqb (refusal latest (in_edition (to m) sheet)).number 0 done.accepted, sheet_same sheet a n (to m) (to_known m).0 (to_known m).1, longest_same sheet a n (to m) (to_known m).0 (to_known m).1)
 
   -- "THE SOLVER ANSWERS BOTH ALIKE": number, word and trials, and the final workspace and output, on every budget and whatever is lent
@@ -127,7 +127,7 @@ module _ (m : Move) (sheet space : List ℕ) (r : WriteReport) (space' : List �
   unfolding maker_refusal
   refusal_same row n space =
       let a = can.accepted in
-      let k = can.no_rule_lem in
+      let k = can.no_rule in
       rw (eq-eqb (refusal latest sheet).number 0 a, eq-eqb (refusal latest (in_edition (to m) sheet)).number 0 done.accepted, grammar_same sheet a k (to m) (to_known m).0 (to_known m).1, count_same sheet a k (to m) (to_known m).0 (to_known m).1)
 
   -- and so does the maker: number and length, and the list
@@ -136,5 +136,5 @@ module _ (m : Move) (sheet space : List ℕ) (r : WriteReport) (space' : List �
   unfolding maker_says space_after
   maker_alike row n list a b list' list'' f g =
       let e = refusal_same row n (length list) in
-      let k = grammar_same sheet can.accepted can.no_rule_lem (to m) (to_known m).0 (to_known m).1 in
+      let k = grammar_same sheet can.accepted can.no_rule (to m) (to_known m).0 (to_known m).1 in
       makes_coincide (λ q. q) sheet row n list a b list' list'' f (record { said = g.said ∙ rw (there, e, k); wrote = g.wrote ∙ rw (there, e, k) })

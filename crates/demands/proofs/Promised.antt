@@ -11,8 +11,8 @@ use Rattle.sheet.specs.Told.{reported}
 use Rattle.maker.proofs.Coincide.{makes}
 use Rattle.maker.proofs.make.Reads as make
 use Rattle.editions.proofs.Coincide.{moves}
-use Rattle.editions.proofs.to_second.Reads as to-second
-use Rattle.editions.proofs.to_first.Reads as to-first
+use Rattle.editions.proofs.to_second.Reads as to_second
+use Rattle.editions.proofs.to_first.Reads as to_first
 use Rattle.gate.specs.Number.{number_of}
 use Rattle.gate.proofs.gate.Reads as gate
 
@@ -26,11 +26,11 @@ pub make_promised : (κs : _) (a : _) (r : _) (e : _) → make.Learnt κs a r e
     → Makes (λ q. q) a.0.now a.1.0 a.1.1.0 a.1.1.1.0.now (reported r) e.1.1.1.0.now
 make_promised κs a r e p = record { said = ap reported p.said ∙ makes _ _ _ _; wrote = p.wrote }
 
-pub to_second_promised : (κs : _) (a : _) (r : _) (e : _) → to-second.Learnt κs a r e
+pub to_second_promised : (κs : _) (a : _) (r : _) (e : _) → to_second.Learnt κs a r e
     → Moves (λ q. q) ToSecond a.0.now a.1.0.now (reported r) e.1.0.now
 to_second_promised κs a r e p = record { said = ap reported p.said ∙ moves ToSecond _ _; wrote = p.wrote }
 
-pub to_first_promised : (κs : _) (a : _) (r : _) (e : _) → to-first.Learnt κs a r e
+pub to_first_promised : (κs : _) (a : _) (r : _) (e : _) → to_first.Learnt κs a r e
     → Moves (λ q. q) ToFirst a.0.now a.1.0.now (reported r) e.1.0.now
 to_first_promised κs a r e p = record { said = ap reported p.said ∙ moves ToFirst _ _; wrote = p.wrote }
 

@@ -76,16 +76,16 @@ movable m s space e =
     let b = pass (plain 40) (no_rule (rules_of s)) _ (omega arith) a.1 in
     let c = pass (plain 41) (leb (length (in_edition (to m) s)) space) no_fault (omega arith) b.1 in
     let d = accepted_only (from m) (from_known m).0 (from_known m).1 s a.0 in
-    record { accepted = d.0; given = d.1; no_rule_lem = b.0; room = leb-true _ _ c.0 }
+    record { accepted = d.0; given = d.1; no_rule = b.0; room = leb-true _ _ c.0 }
 
 -- the sheet moved is as long as its tables and the trailer, so it is short
 pub moved_most : (m : Move) (s : List ℕ) {space : ℕ} → Movable m s space → length (in_edition (to m) s) ≤ 3380
 moved_most m s p =
-    omega (arith, moved_length s (heads latest s p.accepted).trailed (to m) (to_known m).0 (to_known m).1, base_most s p.accepted p.no_rule_lem, (to_known m).1)
+    omega (arith, moved_length s (heads latest s p.accepted).trailed (to m) (to_known m).0 (to_known m).1, base_most s p.accepted p.no_rule, (to_known m).1)
 
 pub movable_none : (m : Move) (s : List ℕ) (space : ℕ) → Movable m s space → move_refusal m s space ≡ no_fault
 movable_none m s space p =
-    room_left m s space (subst (λ (e : ℕ). (refusal (only e) s).number ≡ 0) p.given (only_accepted s p.accepted)) p.no_rule_lem ∙ rw (le-leb _ _ p.room)
+    room_left m s space (subst (λ (e : ℕ). (refusal (only e) s).number ≡ 0) p.given (only_accepted s p.accepted)) p.no_rule ∙ rw (le-leb _ _ p.room)
 
 -- ---- what is said, and what is left
 

@@ -9,5 +9,5 @@ use Rattle.paper.specs.Editions.{Move, from, to, in_edition}
 pub record Movable (m : Move) (s : List ℕ) (space : ℕ) : Type 0 where
   pub accepted : Accepted s
   pub given : edition s ≡ from m
-  pub no_rule_lem : no_rule (rules_of s) ≡ true
+  pub no_rule : no_rule (rules_of s) ≡ true
   pub room : length (in_edition (to m) s) ≤ space

@@ -10,7 +10,7 @@ use lib.ListN.{length, set, length-set}
 use lib.Seq.{get_or-set_other}
 use borrow.Author.Tests.{le-ltb}
 use Rattle.workspace.specs.Bits.{put_bit, bit_at, set_bit, four_at, wiped, copied}
-use Rattle.workspace.proofs.Spans.{lt-or-le}
+use Rattle.workspace.proofs.Spans.{lt_or_le}
 use Rattle.workspace.proofs.Bits.{set_bit_same, set_bit_other, set_bit_apart}
 use Rattle.groundwork.specs.Laying.{Below}
 
@@ -29,7 +29,7 @@ below_set ws i v l = record { long = length-set ws i v; same = λ j h. get_or-se
 -- the bits of an entry that lies below
 pub below_bit : {k : ℕ} {old now : List ℕ} → Below k old now → (e r : ℕ) → 4 * e + 4 ≤ k → bit_at now e r ≡ bit_at old e r
 unfolding bit_at
-below_bit f e r l = lt-or-le r 256 (λ h. rw (f.same (4 * e + r / 64) (omega arith))) (λ h. rw (le-ltb r 256 h))
+below_bit f e r l = lt_or_le r 256 (λ h. rw (f.same (4 * e + r / 64) (omega arith))) (λ h. rw (le-ltb r 256 h))
 
 module _ {k : ℕ} (ws : List ℕ) (e : ℕ) (l : k ≤ 4 * e) where
   below_four : (a b c d : ℕ) → Below k ws (four_at ws e a b c d)

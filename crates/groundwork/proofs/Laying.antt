@@ -18,7 +18,7 @@ use Rattle.paper.specs.Tests.{any_below}
 use Rattle.paper.proofs.Tests.{any_intro}
 use Rattle.sheet.proofs.Contents.{some_letter_lem}
 use Rattle.workspace.specs.Bits.{put_bit, bit_at, wiped, copied}
-use Rattle.workspace.proofs.Spans.{lt-or-le}
+use Rattle.workspace.proofs.Spans.{lt_or_le}
 use Rattle.workspace.proofs.Bits.{wiped_bit, copied_bit, copied_apart}
 use Rattle.sheet_trailer.specs.declared.Table.{Table}
 use Rattle.rows.specs.Sets.{Nulls, Reached, RowsAt}
@@ -58,10 +58,10 @@ module _ (g : Grammar) where
   pub pairs_more : {n j m : ℕ} {old now : List ℕ} → Pairs g n j old → Paired n (row g n) j m old now → Pairs g (n + 1) m now
   pairs_more {n} {j} {m} {old} {now} p u = record {
     few = omega (arith, p.few, u.most);
-    pairs = λ i h. lt-or-le i j
+    pairs = λ i h. lt_or_le i j
         (λ l. subst (λ (x : ℕ). (q : ℕ) × PairOf q (row g q) x) (sym (u.below.same (pairs_at + i) (omega arith))) (p.pairs i l))
         (λ l. let e : j ≡ i = omega (arith, u.most) in subst (λ (k : ℕ). (q : ℕ) × PairOf q (row g q) (get_or now (pairs_at + k) 0)) e (n, u.pair (omega arith)));
-    all = λ q a b h x. lt-or-le q n
+    all = λ q a b h x. lt_or_le q n
         (λ l. let z = p.all q a b l x in (z.0, omega (arith, z.1, u.least), u.below.same (pairs_at + z.0) (omega (arith, z.1)) ∙ z.2))
         (λ l.
         let e : q ≡ n = omega arith in
@@ -73,7 +73,7 @@ module _ (g : Grammar) where
 
   pub lengths_more : (n x y : ℕ) → Lengths g n x → LengthTold (row g n) x y → Lengths g (n + 1) y
   lengths_more n x y f u q off m h e l =
-      lt-or-le q n (λ k. u.kept m (f q off m k e l)) (λ k. u.told off m (ap (row g) (same k) ∙ e) l)
+      lt_or_le q n (λ k. u.kept m (f q off m k e l)) (λ k. u.told off m (ap (row g) (same k) ∙ e) l)
     where
       same : n ≤ q → n ≡ q
       same k = omega arith
@@ -82,14 +82,14 @@ module _ (g : Grammar) where
 
 -- a row that is not in the table neither splits nor is a text row
 splits_below : (g : Grammar) (q a b : ℕ) → Splits q (row g q) a b → q < length g.rows
-splits_below g q a b x = lt-or-le q (length g.rows) (λ h. h) (λ h. absurd (⊎_elim (λ e. clash (outside g q h) (inl e)) (λ e. clash (outside g q h) (inr e.0)) (splits_which x)))
+splits_below g q a b x = lt_or_le q (length g.rows) (λ h. h) (λ h. absurd (⊎_elim (λ e. clash (outside g q h) (inl e)) (λ e. clash (outside g q h) (inr e.0)) (splits_which x)))
   where
     clash : row g q ≡ Range 1 0 → (row g q ≡ Seq a b) ⊎ (row g q ≡ Star a) → ⊥
     clash o (inl e) = let z : ◌≡◌ {A = ℕ} 0 1 = cc in omega arith
     clash o (inr e) = let z : ◌≡◌ {A = ℕ} 0 1 = cc in omega arith
 
 text_below : (g : Grammar) (q off m : ℕ) → row g q ≡ Text off m → q < length g.rows
-text_below g q off m e = lt-or-le q (length g.rows) (λ h. h) (λ h. absurd (clash (outside g q h)))
+text_below g q off m e = lt_or_le q (length g.rows) (λ h. h) (λ h. absurd (clash (outside g q h)))
   where
     clash : row g q ≡ Range 1 0 → ⊥
     clash o = let z : ◌≡◌ {A = ℕ} 0 1 = cc in omega arith
@@ -107,7 +107,7 @@ module _ (s : Sheet) (n : ℕ) (all-rows : n ≡ length s.grammar.rows) (few-row
     long = dw.long ∙ cd.long ∙ bc.long ∙ ab.long ∙ long;
     reached = λ q r h l. below_bit aw q r (omega arith) ∙ cl.reached q r h;
     empties = λ r l. below_bit aw 256 r (omega arith) ∙ cl.empties r;
-    ranges = λ q l. below_bit bw 257 q (omega arith) ∙ lt-or-le q n (rg.told q) (λ h. rg.later q h ∙ sym (rw (outside s.grammar q (omega arith)) (no_row_letter s)));
+    ranges = λ q l. below_bit bw 257 q (omega arith) ∙ lt_or_le q n (rg.told q) (λ h. rg.later q h ∙ sym (rw (outside s.grammar q (omega arith)) (no_row_letter s)));
     letters = λ k. below_bit cw 258 k (omega arith) ∙ rw copy (copied_bit b 258 letters 0 (omega (arith, ab.long)) k) ∙ is k;
     some = some;
     few = omega (arith, count, pr.few);

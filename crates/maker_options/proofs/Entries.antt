@@ -10,7 +10,7 @@ use lib.ListN.{length}
 use Rattle.paper.specs.Rows.{Grammar}
 use Rattle.paper.specs.Sheet.{grammar_of}
 use Rattle.workspace.specs.Bits.{put_bit, wiped, copied}
-use Rattle.workspace.proofs.Spans.{lt-or-le}
+use Rattle.workspace.proofs.Spans.{lt_or_le}
 use Rattle.workspace.proofs.Bits.{length_set_bit, set_bit_same, set_bit_other, set_bit_apart, length_wiped, wiped_bit, wiped_apart, copied_bit, copied_apart}
 use Rattle.sheet_contents.specs.declared.Row.{Row}
 use Rattle.sheet_contents.specs.Read.{as_row}
@@ -25,13 +25,13 @@ module _ (e : ℕ) (f : ℕ → Bool) (old : List ℕ) (room : 4 * e + 4 ≤ len
   unfolding put_bit
   entry_more n now true h eq x = record {
     long = length_set_bit now e n ∙ x.long;
-    here = λ q l. lt-or-le q n (λ u. set_bit_other now e n q (λ d. omega arith) ∙ x.here q u) (λ u. let d : q ≡ n = omega arith in rw d (set_bit_same now e n (omega (arith, x.long)) h ∙ eq));
+    here = λ q l. lt_or_le q n (λ u. set_bit_other now e n q (λ d. omega arith) ∙ x.here q u) (λ u. let d : q ≡ n = omega arith in rw d (set_bit_same now e n (omega (arith, x.long)) h ∙ eq));
     above = λ q l. set_bit_other now e n q (λ d. omega arith) ∙ x.above q (omega arith);
     apart = λ t q ne. set_bit_apart now e n t q ne h ∙ x.apart t q ne;
   }
   entry_more n now false h eq x = record {
     long = x.long;
-    here = λ q l. lt-or-le q n (λ u. x.here q u) (λ u. let d : q ≡ n = omega arith in rw d (x.above n (omega arith) ∙ eq));
+    here = λ q l. lt_or_le q n (λ u. x.here q u) (λ u. let d : q ≡ n = omega arith in rw d (x.above n (omega arith) ∙ eq));
     above = λ q l. x.above q (omega arith);
     apart = x.apart;
   }
@@ -62,7 +62,7 @@ turned_none from n ws h = record { long = h; each = λ r q l u. absurd (omega ar
 pub turned_more : (from : List ℕ) (n k : ℕ) (ws now : List ℕ) → Turned from n k ws → Entry k n (across from k) ws now → Turned from n (k + 1) now
 turned_more from n k ws now x y = record {
   long = y.long ∙ x.long;
-  each = λ r q l u. lt-or-le r k (λ v. y.apart r q (λ d. omega arith) ∙ x.each r q v u) (λ v. let d : r ≡ k = omega arith in rw d (y.here q u));
+  each = λ r q l u. lt_or_le r k (λ v. y.apart r q (λ d. omega arith) ∙ x.each r q v u) (λ v. let d : r ≡ k = omega arith in rw d (y.here q u));
 }
 
 -- ---- each length's entry
@@ -73,7 +73,7 @@ given_none g ws h = record { long = h; each = λ m q a b u. absurd (omega arith)
 pub given_more : (g : Grammar) (k rows : ℕ) (old ws now : List ℕ) → 1 ≤ k → rows ≡ length g.rows → Given g k old ws → Entry (256 + k) rows (giving g k) ws now → Given g (k + 1) old now
 given_more g k rows old ws now h e x y = record {
   long = y.long ∙ x.long;
-  each = λ m q a b u. lt-or-le m k (λ v. y.apart (256 + m) q (λ d. omega arith) ∙ x.each m q a v u) (λ v. let d : m ≡ k = omega arith in rw d (y.here q (omega arith)));
+  each = λ m q a b u. lt_or_le m k (λ v. y.apart (256 + m) q (λ d. omega arith) ∙ x.each m q a v u) (λ v. let d : m ≡ k = omega arith in rw d (y.here q (omega arith)));
   kept = λ t q l. y.apart t q (λ d. omega arith) ∙ x.kept t q l;
 }
 

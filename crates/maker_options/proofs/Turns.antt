@@ -19,7 +19,7 @@ use Rattle.paper.proofs.Sound.{Sound}
 use Rattle.paper.proofs.Obeys.{options_few, group_most, groups_most}
 use Rattle.workspace.specs.Bits.{bit_at}
 use Rattle.workspace.specs.Scan.{First}
-use Rattle.workspace.proofs.Spans.{lt-or-le}
+use Rattle.workspace.proofs.Spans.{lt_or_le}
 use Rattle.sheet_contents.specs.declared.Row.{Row}
 use Rattle.sheet_contents.specs.Read.{as_row}
 use Rattle.sheet.specs.Readers.{RowRead}
@@ -59,7 +59,7 @@ groups_inside g m n h = omega (arith, groups_more g m, gather_rises 0 (m + 1) (n
 pub offset_more : (g : Grammar) (m : ℕ) (offsets : List ℕ) (total : ℕ) → m < length offsets → total ≡ length (groups g m) → Offsets g m offsets → Offsets g (m + 1) (set offsets m total)
 offset_more g m offsets total h e x = record {
   each = λ k l.
-      lt-or-le k m (λ u. get_or-set_other offsets m k total 0 (λ d. omega arith) ∙ x.each k u)
+      lt_or_le k m (λ u. get_or-set_other offsets m k total 0 (λ d. omega arith) ∙ x.each k u)
       (λ u. let d : k ≡ m = omega arith in rw d (get_or-set_same offsets m total 0 h ∙ e));
 }
 

@@ -22,7 +22,7 @@ use Rattle.paper.proofs.Obeys.{Obeys}
 use Rattle.paper.proofs.WellFormed.{Formed, formed_level}
 use Rattle.workspace.specs.Spans.{span_at}
 use Rattle.workspace.specs.Bits.{bit_at, set_bit}
-use Rattle.workspace.proofs.Spans.{lt-or-le, span_lt, span_inj}
+use Rattle.workspace.proofs.Spans.{lt_or_le, span_lt, span_inj}
 use Rattle.workspace.proofs.Bits.{length_set_bit, set_bit_same, set_bit_other, set_bit_apart, drop_set_bit, zeroed_bit, length_zeroed, drop_zeroed, zeroed_same}
 use Rattle.list.proofs.Formed.{option_obeys}
 use Rattle.reading.specs.Marks.{in_table, in_turn, mark_start, mark_option, mark_at, mark_head, mark_group, marked}
@@ -172,7 +172,7 @@ module _ (l text word : List ℕ) (f : Formed l (length text)) (n : length word 
       up_to_other : (c j : ℕ) → (j ≡ c → ⊥) → up_to (suc c) j ≡ up_to c j
       unfolding up_to
       up_to_other c j ne =
-          lt-or-le j c (λ h. rw (lt-ltb j c h, lt-ltb j (suc c) (omega arith)))
+          lt_or_le j c (λ h. rw (lt-ltb j c h, lt-ltb j (suc c) (omega arith)))
           (λ h. rw (le-ltb j c h, le-ltb j (suc c) (omega arith)))
 
       stage_option : (ws : List ℕ) → At m r own ws → At m r (λ i. meets l text word m x i || own i) (mark_option text word m r x ws)

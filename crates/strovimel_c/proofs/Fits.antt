@@ -17,7 +17,7 @@ use Rattle.paper.specs.Editions.{Move, to, in_edition, move_refusal, move_says}
 use Rattle.paper.specs.Promises.{says}
 use Rattle.paper.proofs.Meaning.{Means, answer_means}
 use Rattle.paper.proofs.Obeys.{list_most}
-use Rattle.workspace.proofs.Spans.{lt-or-le}
+use Rattle.workspace.proofs.Spans.{lt_or_le}
 use Rattle.sheet.proofs.Good.{good}
 use Rattle.sheet.proofs.Soundness.{good_sound}
 use Rattle.editions.proofs.Answers.{movable, moved_most}
@@ -40,7 +40,7 @@ word_short s budget (Refused n) m = absurd m
 pub word_fits : (s : List ℕ) (budget : ℕ) (work out : List ℕ) → (report_of (says s budget work out)).length < 4294967296
 unfolding solver_says
 word_fits s budget work out =
-    lt-or-le 0 (refusal latest s).number (λ h. rw (says_sheet s budget work out (λ z. omega arith)) (omega arith))
+    lt_or_le 0 (refusal latest s).number (λ h. rw (says_sheet s budget work out (λ z. omega arith)) (omega arith))
     (λ h. either (eqb (solver_refusal s (length work) (length out)).number 0) (omega (arith, h)))
   where
     either : (b : Bool) → (refusal latest s).number ≡ 0 → (report_of (whether b (under budget (walk_of (sheet_of s))) (Refused (solver_refusal s (length work) (length out))))).length < 4294967296
@@ -65,11 +65,11 @@ module _ (s : List ℕ) (row n space : ℕ) where
 
   pub list_fits : (maker_says s row n space).length < 4294967296
   list_fits =
-      lt-or-le 0 (refusal latest s).number (λ h. refused_fits (refusal latest s) (refused_sheet s row n space (λ z. omega arith)) h)
+      lt_or_le 0 (refusal latest s).number (λ h. refused_fits (refusal latest s) (refused_sheet s row n space (λ z. omega arith)) h)
       (λ h.
       let a : (refusal latest s).number ≡ 0 = omega arith in
-      lt-or-le row (count_of s 2)
-      (λ b. lt-or-le 60 n (λ l. refused_fits (plain 21) (refused_length s row n space a b l) (omega arith)) (λ l. written_fits a b l))
+      lt_or_le row (count_of s 2)
+      (λ b. lt_or_le 60 n (λ l. refused_fits (plain 21) (refused_length s row n space a b l) (omega arith)) (λ l. written_fits a b l))
       (λ b. refused_fits (plain 20) (refused_row s row n space a b) (omega arith)))
 
 -- ---- the sheet moved

@@ -83,9 +83,9 @@ module _ (B : ℕ) where
   dropped : (n : ℕ) (t : List ℕ) → Low t → (i : ℕ) → get_or (drop n t) i 0 ≤ B
   dropped n t h i = rw (get_or-drop n t i 0) (all t h (n + i))
 
-get_d_paste_cases : (d : List ℕ) (at : ℕ) (s : List ℕ) (B : ℕ) → ((i : ℕ) → i < length d → get_or d i 0 ≤ B) → ((i : ℕ) → i < length s → get_or s i 0 ≤ B)
+get_or_paste_cases : (d : List ℕ) (at : ℕ) (s : List ℕ) (B : ℕ) → ((i : ℕ) → i < length d → get_or d i 0 ≤ B) → ((i : ℕ) → i < length s → get_or s i 0 ≤ B)
     → (i : ℕ) → get_or (paste d at s (length s)) i 0 ≤ B
-get_d_paste_cases d at s B f g i =
+get_or_paste_cases d at s B f g i =
     below (take at d ++ take (length s) s) (drop (at + length s) d) (below (take at d) (take (length s) s) (taken B at d f) (taken B (length s) s g)) (dropped B (at + length s) d f) i
   where
     below : (t u : List ℕ) → ((i : ℕ) → get_or t i 0 ≤ B) → ((i : ℕ) → get_or u i 0 ≤ B) → (i : ℕ) → get_or (t ++ u) i 0 ≤ B
@@ -100,7 +100,7 @@ pasted_sized p s z h b =
     record {
       room = h;
       long = length-paste p.of p.len s (length s) (omega arith) (omega arith) ∙ l;
-      small = λ i m. get_d_paste_cases p.of p.len s 256 (λ j k. z.small j (omega arith)) b i;
+      small = λ i m. get_or_paste_cases p.of p.len s 256 (λ j k. z.small j (omega arith)) b i;
     }
 
 -- ---- all of v

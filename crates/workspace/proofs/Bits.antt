@@ -17,7 +17,7 @@ use borrow.Author.Fill.{fill_none, fill_more}
 use borrow.Author.Tests.{eqb-true, lt-ltb, le-ltb}
 use Rattle.paper.specs.Answers.{zeroed}
 use Rattle.workspace.specs.Bits.{bit, bit_at, set_bit, four_at, word_at, wiped, copied, joined, none_at}
-use Rattle.workspace.proofs.Spans.{lt-or-le}
+use Rattle.workspace.proofs.Spans.{lt_or_le}
 use Rattle.workspace.proofs.Words.{bit_lt, bit_zero, bit_or_lem, mark_same, mark_other, or_none_left, or_none_right, of_four, first, length_four, four_word, four_other, drop_four}
 
 -- ---- a bit in its word
@@ -34,11 +34,11 @@ bit_in ws s r h = rw (lt-ltb r 256 h)
 -- the word says the bit
 by_word : (l ws : List ℕ) (s t r : ℕ) → (r < 256 → word_at l s (r / 64) ≡ word_at ws t (r / 64)) → bit_at l s r ≡ bit_at ws t r
 unfolding bit_at
-by_word l ws s t r f = lt-or-le r 256 (λ h. rw (f h)) (λ h. rw (le-ltb r 256 h))
+by_word l ws s t r f = lt_or_le r 256 (λ h. rw (f h)) (λ h. rw (le-ltb r 256 h))
 
 -- a word of no bits
 pub no_word : (ws : List ℕ) (s r : ℕ) → (r < 256 → word_at ws s (r / 64) ≡ 0) → bit_at ws s r ≡ false
-no_word ws s r f = lt-or-le r 256 (λ h. bit_in ws s r h ∙ rw (f h, bit_zero (r % 64))) (bit_past ws s r)
+no_word ws s r f = lt_or_le r 256 (λ h. bit_in ws s r h ∙ rw (f h, bit_zero (r % 64))) (bit_past ws s r)
 
 -- ---- the code's forms
 
@@ -71,7 +71,7 @@ module _ (ws : List ℕ) (s r : ℕ) where
   -- the bits of other rows of the span are kept
   pub set_bit_other : (q : ℕ) → q ≢ r → bit_at (set_bit ws s r) s q ≡ bit_at ws s q
   unfolding bit_at set_bit
-  set_bit_other q ne = lt-or-le (4 * s + r / 64) (length ws) (λ h. go h (ℕ_discrete (q / 64) (r / 64))) (λ h. rw (set_out ws (4 * s + r / 64) (marked ws s r) h))
+  set_bit_other q ne = lt_or_le (4 * s + r / 64) (length ws) (λ h. go h (ℕ_discrete (q / 64) (r / 64))) (λ h. rw (set_out ws (4 * s + r / 64) (marked ws s r) h))
     where
       go : 4 * s + r / 64 < length ws → Dec (q / 64 ≡ r / 64) → bit_at (set_bit ws s r) s q ≡ bit_at ws s q
       go h (no k) = rw (get_or-set_other ws (4 * s + r / 64) (4 * s + q / 64) (marked ws s r) 0 (λ e. k (omega arith)))
@@ -161,7 +161,7 @@ module _ (ws : List ℕ) (s : ℕ) (from : List ℕ) (q : ℕ) where
   joined_word room k h = four_word ws s _ _ _ _ room (λ k. bit_or (word_at ws s k) (word_at from q k)) (rw (first ws s, first from q)) refl refl refl k h
 
   pub joined_bit : 4 * s + 4 ≤ length ws → (r : ℕ) → bit_at (joined ws s from q) s r ≡ (bit_at ws s r || bit_at from q r)
-  joined_bit room r = lt-or-le r 256 low (λ h. rw (bit_past (joined ws s from q) s r h, bit_past ws s r h, bit_past from q r h))
+  joined_bit room r = lt_or_le r 256 low (λ h. rw (bit_past (joined ws s from q) s r h, bit_past ws s r h, bit_past from q r h))
     where
       low : r < 256 → bit_at (joined ws s from q) s r ≡ (bit_at ws s r || bit_at from q r)
       low h =

@@ -12,7 +12,7 @@ use lib.Seq.{get_or-set_other, set-get_or}
 use lib.Bits.{bit_or, bit_xor, or_lt, or_add_and, xor_add_and, xor_self, and_le_l, and_le_r}
 use Rattle.workspace.specs.Bits.{set_bit, four_at, word_at, joined}
 use Rattle.workspace.specs.Room.{room, Grows}
-use Rattle.workspace.proofs.Spans.{lt-or-le}
+use Rattle.workspace.proofs.Spans.{lt_or_le}
 use Rattle.workspace.proofs.Words.{or_none_left, or_none_right}
 
 pub or_le : (x y : ℕ) → x ≤ bit_or x y
@@ -83,7 +83,7 @@ module _ (ws : List ℕ) (s a b c d : ℕ) where
 
 -- where no word gains, the words are the same
 sums : (a b c d w x y z : ℕ) → w ≤ a → x ≤ b → y ≤ c → z ≤ d → bit_or (bit_or (bit_or (bit_xor a w) (bit_xor b x)) (bit_xor c y)) (bit_xor d z) ≢ 0 → w + x + y + z < a + b + c + d
-sums a b c d w x y z ha hb hc hd ne = lt-or-le (w + x + y + z) (a + b + c + d) (λ h. h) (λ h. absurd (ne (none (omega arith) (omega arith) (omega arith) (omega arith))))
+sums a b c d w x y z ha hb hc hd ne = lt_or_le (w + x + y + z) (a + b + c + d) (λ h. h) (λ h. absurd (ne (none (omega arith) (omega arith) (omega arith) (omega arith))))
   where
     none : a ≡ w → b ≡ x → c ≡ y → d ≡ z → bit_or (bit_or (bit_or (bit_xor a w) (bit_xor b x)) (bit_xor c y)) (bit_xor d z) ≡ 0
     none p q r t = rw (same_xor a w p, same_xor b x q, same_xor c y r, same_xor d z t)

@@ -10,7 +10,7 @@ use lib.Bits.{bit_and, and_mask, and_shr, and_mod}
 use borrow.Author.Tests.{eq-eqb, ne_eqb}
 use Rattle.workspace.specs.Bits.{bit, bit_at, word_at}
 use Rattle.workspace.specs.Scan.{in_both, First}
-use Rattle.workspace.proofs.Spans.{lt-or-le}
+use Rattle.workspace.proofs.Spans.{lt_or_le}
 use Rattle.workspace.proofs.Words.{none_above, bit_lt}
 use Rattle.workspace.proofs.Bits.{bit_in}
 
@@ -49,7 +49,7 @@ module _ (ws : List ℕ) (a b : ℕ) where
 
   -- a word with no bit left has none of its further rows
   pub passed : (p q : ℕ) → q < 256 → common ws a b (q / 64) / 2 ^ (q % 64) ≡ 0 → ((k : ℕ) → k < q → p ≤ k → in_both ws a b k ≡ false) → (k : ℕ) → k < 64 * (q / 64) + 64 → p ≤ k → in_both ws a b k ≡ false
-  passed p q h e f k u l = lt-or-le k q (λ x. f k x l) further
+  passed p q h e f k u l = lt_or_le k q (λ x. f k x l) further
     where
       further : q ≤ k → in_both ws a b k ≡ false
       further x =

@@ -8,8 +8,8 @@ use native.Mathlib.Omega.{arith}
 use Rattle.workspace.specs.Spans.{tri, span_at}
 
 -- by cases on an order
-pub lt-or-le {ℓ} : {P : Type ℓ} (a b : ℕ) → (a < b → P) → (b ≤ a → P) → P
-lt-or-le {P = P} a b f g = go (dec_lt a b)
+pub lt_or_le {ℓ} : {P : Type ℓ} (a b : ℕ) → (a < b → P) → (b ≤ a → P) → P
+lt_or_le {P = P} a b f g = go (dec_lt a b)
   where
     go : Dec (a < b) → P
     go (yes k) = f k
@@ -31,7 +31,7 @@ eq_of k h = omega arith
 tri_later : (e f : ℕ) → e < f → tri e + e < tri f
 unfolding tri
 tri_later e zero h = absurd (not-suc-le-zero h)
-tri_later e (suc f) h = lt-or-le e f (λ k. omega (arith, tri_later e f k)) (λ k. omega (arith, ap tri (eq_of k h)))
+tri_later e (suc f) h = lt_or_le e f (λ k. omega (arith, tri_later e f k)) (λ k. omega (arith, ap tri (eq_of k h)))
 
 -- a term of 60 bytes has 1,891 spans
 pub span_lt : (i m : ℕ) → i + m ≤ 60 → span_at i m < 1891
@@ -42,8 +42,8 @@ span_lt i m h = omega (arith, tri_later (i + m) 61 (omega arith))
 pub span_inj : (i m j n : ℕ) → span_at i m ≡ span_at j n → (i ≡ j) × (m ≡ n)
 unfolding span_at
 span_inj i m j n h =
-    lt-or-le (i + m) (j + n) (λ k. absurd (omega (arith, tri_later (i + m) (j + n) k)))
-    (λ k. lt-or-le (j + n) (i + m) (λ k'. absurd (omega (arith, tri_later (j + n) (i + m) k'))) (λ k'. omega (arith, ap tri (same k k'))))
+    lt_or_le (i + m) (j + n) (λ k. absurd (omega (arith, tri_later (i + m) (j + n) k)))
+    (λ k. lt_or_le (j + n) (i + m) (λ k'. absurd (omega (arith, tri_later (j + n) (i + m) k'))) (λ k'. omega (arith, ap tri (same k k'))))
   where
     same : j + n ≤ i + m → i + m ≤ j + n → i + m ≡ j + n
     same k k' = omega arith

@@ -11,7 +11,7 @@ use lib.Seq.{get_or-set_same, get_or-set_other, drop-set-lt}
 use lib.Pow.{pow-add, pow-lt, pow_mono, pow_pos, shl-shr}
 use lib.Bits.{bit_or, or_shr, or_mod, or_zero_r, or_add_and, and_le_l, and_le_r}
 use Rattle.workspace.specs.Bits.{bit, four_at, word_at}
-use Rattle.workspace.proofs.Spans.{lt-or-le}
+use Rattle.workspace.proofs.Spans.{lt_or_le}
 
 -- ---- a word
 
@@ -40,7 +40,7 @@ unfolding bit
 mask_below j d = ap (λ (z : ℕ). z % 2) (ap (λ (z : ℕ). z / 2 ^ j) (pow-add 2 (suc d) j) ∙ shl-shr (2 ^ suc d) j) ∙ omega arith
 
 mask_other : (j k : ℕ) → j ≢ k → bit (2 ^ k) j ≡ 0
-mask_other j k ne = lt-or-le k j (mask_above j k) (λ h. ap (λ (z : ℕ). bit (2 ^ z) j) (split h) ∙ mask_below j (k - suc j))
+mask_other j k ne = lt_or_le k j (mask_above j k) (λ h. ap (λ (z : ℕ). bit (2 ^ z) j) (split h) ∙ mask_below j (k - suc j))
   where
     split : j ≤ k → k ≡ suc (k - suc j) + j
     split h = omega arith

@@ -16,9 +16,6 @@ contain_from-requires c =
 pub equal-requires : goal.equal-requires
 equal-requires c = (c.requires.2, c.requires.3, omega (arith, c.requires.0.ground.long))
 
-pub contains-requires : goal.contains-requires
-contains-requires c = (c.requires.2, c.requires.3, omega (arith, c.requires.0.ground.long))
-
 pub returns-in-Derived : goal.returns-in-Derived
 unfolding shown
 returns-in-Derived c =

@@ -1,3 +1,4 @@
+-- `State::since` meets its contract: no prefix was begun after the trials made.
 use native.Mathlib.Omega.{arith}
 use Rattle.walk_state.proofs.State.since.Goals as goal
 
