@@ -387,8 +387,6 @@ def convert_function(crate, folder, names, reserve):
     keep = [u for u in uses if not re.search(r"\.(Statement|Tie)\b", u)]
     reserve[where] = {"module": module, "folder": folder, "spare": spare}
     # write
-    lines = []
-    head_notes = []
     inv_lines = []
     if invariants:
         for notes, new, unf, body in invariants:
