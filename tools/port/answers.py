@@ -4,7 +4,7 @@
 usage: python3 tools/port/answers.py NAMES CRATE [FUNCTION-FOLDER..]
 
 NAMES is the names.json that `rt check --generated DIR --old-names` leaves in DIR, run in the crate's folder. Goals that
-the old proof gave to a tactic alone are left to the check; they are kept in /tmp/answers-CRATE.json for a goal that it
+the old proof gave to a tactic alone are left to the check; they are kept in the folder of temporary files for a goal that it
 then leaves open (`again`, below).
 
        python3 tools/port/answers.py again CRATE LOG   adds those answers for the goals that the check's LOG names
@@ -14,10 +14,15 @@ import json
 import os
 import re
 import sys
+import tempfile
 
 IDENT = r"[A-Za-z_][\w'-]*"
 LABELS = {"walk::recall": {"0": "noted", "1": "seen"}, "solver::answer": {"0": "said", "1": "cleared", "2": "wrote"}}
 TRIVIAL = re.compile(r"(?:omega arith|search rules|tt|refl|omega \(arith\)|search \(rules\))$")
+
+
+def kept_in(crate):
+    return os.path.join(tempfile.gettempdir(), f"answers-{crate}.json")
 
 
 def norm(s):
@@ -418,7 +423,7 @@ def convert_function(crate, folder, names, reserve):
 
 def again(crate, log):
     """Adds the kept answers for goals that the check leaves open."""
-    reserve = json.load(open(f"/tmp/answers-{crate}.json"))
+    reserve = json.load(open(kept_in(crate)))
     said = open(log, encoding="utf-8", errors="replace").read()
     n = 0
     for m in re.finditer(r"expected answers in (?:\./)?(proofs/\S+)/Answers\.antt; `search` did not prove (.*)", said):
@@ -445,7 +450,7 @@ def main(argv):
     crate = argv[1]
     want = argv[2:]
     reserve = {}
-    kept = f"/tmp/answers-{crate}.json"
+    kept = kept_in(crate)
     if os.path.exists(kept):
         reserve = json.load(open(kept))
     for key, entry in data.items():
