@@ -1,7 +1,7 @@
 -- A set of letters as an array holds it.
-use Rattle.std.specs.Prelude.{◌≡◌, ℕ, Bool, false, ◌&&◌, ◌||◌, List, leb}
+use Rattle.std.specs.Prelude.{◌≡◌, ℕ, Bool, false, ◌&&◌, ◌||◌, List, Option, leb}
 use Rattle.workspace.specs.Bits.{bit_at}
-use Rattle.workspace.specs.Scan.{First}
+use Rattle.workspace.specs.Scan.{FirstOf}
 
 -- b is a letter, its bit of the four words: the only way in which others look into them
 unfoldable pub has_letter : List ℕ → ℕ → Bool
@@ -15,6 +15,6 @@ NoLetter of = (x : ℕ) → has_letter of x ≡ false
 abbrev pub Joined : (of : List ℕ) (low high : ℕ) (r : List ℕ) → Type 0
 Joined of low high r = (x : ℕ) → has_letter r x ≡ ((leb low x && leb x high) || has_letter of x)
 
--- b is the first letter at or after c, or 256
-abbrev pub FirstFrom : (is : ℕ → Bool) (c b : ℕ) → Type 0
-FirstFrom is c b = First is c 256 b
+-- o is the first letter at or after c; None where there is none
+abbrev pub FirstFrom : (is : ℕ → Bool) (c : ℕ) → Option ℕ → Type 0
+FirstFrom is c o = FirstOf is c 256 o

@@ -39,13 +39,14 @@ impl Letters {
         workspace::test(&of, 0, numbers::wide(b))
     }
 
-    // The first letter at or after c, or 256.
-    pub fn first_from(self, c: usize) -> usize
+    // The first letter at or after c.
+    pub fn first_from(self, c: usize) -> Option<u8>
         requires { c ≤ 256 }
         ensures { FirstFrom (has_letter self.of) c result }
     {
         let of = self.of;
-        workspace::next(&of, 0, 0, c, 256)
+        let b = workspace::next(&of, 0, 0, c, 256)?;
+        Some(b as u8)
     }
 }
 

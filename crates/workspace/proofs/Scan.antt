@@ -4,12 +4,13 @@ use Prim.Native.Nat.{ℕ, zero, suc, ◌+◌, ◌*◌, ◌/◌, ◌%◌, ◌^◌
 use mathlib.Core.Path.{◌≡◌, refl, sym, ap, ◌∙◌}
 use mathlib.Core.Bool.{Bool, true, false, ◌&&◌}
 use mathlib.Core.List.{List}
+use Rattle.std.specs.Prelude.{Option, Some, None}
 use native.Mathlib.Omega.{arith}
 use lib.Dec.{eqb}
 use lib.Bits.{bit_and, and_mask, and_shr, and_mod}
 use borrow.Author.Tests.{eq-eqb, ne_eqb}
 use Rattle.workspace.specs.Bits.{bit, bit_at, word_at}
-use Rattle.workspace.specs.Scan.{in_both, First}
+use Rattle.workspace.specs.Scan.{in_both, First, FirstOf}
 use Rattle.workspace.proofs.Spans.{lt_or_le}
 use Rattle.workspace.proofs.Words.{none_above, bit_lt}
 use Rattle.workspace.proofs.Bits.{bit_in}
@@ -69,10 +70,14 @@ module _ (ws : List ℕ) (a : ℕ) where
   unfolding in_both
   one_is k = and_same (bit_at ws a k)
 
-  pub first_one : (p n q : ℕ) → First (in_both ws a a) p n q → First (bit_at ws a) p n q
+  first_one : (p n q : ℕ) → First (in_both ws a a) p n q → First (bit_at ws a) p n q
   first_one p n q f = record {
     low = f.low;
     high = f.high;
     hit = λ h. sym (one_is q) ∙ f.hit h;
     gap = λ k u l. sym (one_is k) ∙ f.gap k u l;
   }
+
+  pub first_of_one : (p n : ℕ) (o : Option ℕ) → FirstOf (in_both ws a a) p n o → FirstOf (bit_at ws a) p n o
+  first_of_one p n (Some q) f = (f.0, first_one p n q f.1)
+  first_of_one p n None f = first_one p n n f

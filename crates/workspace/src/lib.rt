@@ -7,7 +7,7 @@ ghost use Rattle.paper.specs.Answers.{words, zeroed};
 ghost use Rattle.workspace.specs.Spans.{span_at};
 ghost use Rattle.workspace.specs.Bits.{bit_at, set_bit, put_bit, four_at, wiped, copied, joined, none_at};
 ghost use Rattle.workspace.specs.Room.{Grows};
-ghost use Rattle.workspace.specs.Scan.{in_both, First};
+ghost use Rattle.workspace.specs.Scan.{in_both, FirstOf};
 
 // The number of the span of m places from place i on.
 pub fn span(i: usize, m: usize) -> usize
@@ -54,16 +54,16 @@ pub fn none(ws: &[u64], s: usize) -> bool
     ws[i] | ws[i + 1] | ws[i + 2] | ws[i + 3] == 0
 }
 
-// The first row from p on and below n that the sets at entries a and b both have, or n. Words that have none left are passed over whole.
-pub fn next(ws: &[u64], a: usize, b: usize, p: usize, n: usize) -> usize
+// The first row from p on and below n that the sets at entries a and b both have. Words that have none left are passed over whole.
+pub fn next(ws: &[u64], a: usize, b: usize, p: usize, n: usize) -> Option<usize>
     requires { (4 * a + 4 ≤ length ws.now) × (4 * b + 4 ≤ length ws.now) × (p ≤ n) × (n ≤ 256) }
-    ensures { First (in_both ws.now a b) p n result }
+    ensures { FirstOf (in_both ws.now a b) p n result }
 {
     let mut q = p;
     while q < n {
         let x = (ws[4 * a + q / 64] & ws[4 * b + q / 64]) >> (q % 64);
         if x & 1 == 1 {
-            return q;
+            return Some(q);
         }
         if x == 0 {
             q = 64 * (q / 64) + 64;
@@ -71,7 +71,7 @@ pub fn next(ws: &[u64], a: usize, b: usize, p: usize, n: usize) -> usize
             q += 1;
         }
     }
-    n
+    None
 }
 
 // The words a, b, c, d into span s.

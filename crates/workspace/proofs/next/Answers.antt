@@ -9,7 +9,7 @@ loop-q-init c = (omega arith, λ k u l. absurd (omega arith))
 pub returns-then-x-eq1 : goal.returns-then-x-eq1
 returns-then-x-eq1 c =
     let l = c.loop-q in
-    record { low = l.invariant.0; high = omega arith; hit = λ h. here _ _ _ l.q (omega arith) c.if-x-eq1.true; gap = l.invariant.1 }
+    (omega arith, record { low = l.invariant.0; high = omega arith; hit = λ h. here _ _ _ l.q (omega arith) c.if-x-eq1.true; gap = l.invariant.1 })
 
 -- words with no row left are passed over
 pub loop-q-preserved-then-x-eq0 : goal.loop-q-preserved-then-x-eq0
