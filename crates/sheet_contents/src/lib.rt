@@ -33,7 +33,7 @@ pub enum Claim {
 }
 
 // A run of parts of the table.
-#[derive(Clone, Copy)]
+#[derive(Clone, Copy, PartialEq, Eq)]
 pub struct Run {
     pub first: usize,
     pub count: usize,
