@@ -19,10 +19,7 @@ fn both(work: &[u64], left: usize, right: usize, x: usize) -> bool
     requires { (left < 1891) × (right < 1891) × (x < 16777216) × (7564 ≤ length work.now) }
     ensures { result ≡ «both» work.now left right x }
 {
-    if workspace::test(work, left, x / 256 % 256) {
-        return workspace::test(work, right, x / 65536);
-    }
-    false
+    workspace::test(work, left, x / 256 % 256) && workspace::test(work, right, x / 65536)
 }
 
 // The rows that a pair of the groundwork splits over two spans, into span sp.
@@ -31,12 +28,10 @@ fn pairs(lay: &[u64], work: &mut [u64], left: usize, right: usize, sp: usize)
     ensures { Adds sp (paired lay.now work.old left right (get_or lay.now count_at 0)) work.old work.new }
 {
     let n = lay[1293] as usize;
-    let mut j = 0;
-    while j < n {
-        let x = lay[1036 + j] as usize;
+    for pair in &lay[1036..1036 + n] {
+        let x = *pair as usize;
         let on = both(work, left, right, x);
         put(work, sp, x % 256, on);
-        j += 1;
     }
 }
 
@@ -45,10 +40,7 @@ fn split(lay: &[u64], work: &mut [u64], left: usize, right: usize, sp: usize)
     requires { Pairs lay.now × (left < 1891) × (right < 1891) × (sp < 1891) × (left ≢ sp) × (right ≢ sp) × (7564 ≤ length work.old) }
     ensures { Adds sp (paired lay.now work.old left right (get_or lay.now count_at 0)) work.old work.new }
 {
-    if workspace::none(work, left) {
-        return;
-    }
-    if workspace::none(work, right) {
+    if workspace::none(work, left) || workspace::none(work, right) {
         return;
     }
     pairs(lay, work, left, right, sp);
@@ -60,20 +52,14 @@ pub fn splits(lay: &[u64], work: &mut [u64], i: usize, m: usize, sp: usize)
     requires { Pairs lay.now × (i + m ≤ 60) × (sp ≡ span_at i m) × (7564 ≤ length work.old) }
     ensures { Adds sp (parted lay.now work.old i m (m - 1)) work.old work.new }
 {
-    if lay[1293] == 0 {
-        return;
-    }
-    if m < 2 {
+    if lay[1293] == 0 || m < 2 {
         return;
     }
     let base = sp - i;
-    let end = i + m;
     let mut left = workspace::span(i, 1);
-    let mut e = i + 1;
-    while e < end {
+    for e in i + 1..i + m {
         split(lay, work, left, base + e, sp);
-        e += 1;
-        left += e;
+        left += e + 1;
     }
 }
 
@@ -95,9 +81,7 @@ pub fn carry(lay: &[u64], work: &mut [u64], sp: usize, rows: usize)
     if workspace::none(work, sp) {
         return;
     }
-    let mut q = 0;
-    while q < rows {
+    for q in 0..rows {
         bring(lay, work, sp, q);
-        q += 1;
     }
 }

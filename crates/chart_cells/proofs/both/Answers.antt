@@ -5,6 +5,6 @@ pub returns-then-test : goal.returns-then-test
 unfolding both
 returns-then-test c = rw (← c.test.ensures, c.if-test.true) c.test-then-test.ensures
 
-pub returns : goal.returns
+pub returns-else-test : goal.returns-else-test
 unfolding both
-returns c = rw (← c.test.ensures, c.if-test.false)
+returns-else-test c = rw (← c.test.ensures, c.if-test.false)

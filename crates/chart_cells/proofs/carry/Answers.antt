@@ -11,7 +11,7 @@ returns-then-none c =
 pub loop-q-init : goal.loop-q-init
 loop-q-init c =
     let a = c.args in
-    (omega arith, carry_start a.lay.now a.sp a.rows a.work.now)
+    carry_start a.lay.now a.sp a.rows a.work.now
 
 pub bring-requires : goal.bring-requires
 bring-requires c = (omega arith, omega arith, omega arith, omega arith)
@@ -20,10 +20,10 @@ pub loop-q-preserved : goal.loop-q-preserved
 loop-q-preserved c =
     let a = c.args in
     let l = c.loop-q in
-    (omega arith, carry_turn a.lay.now a.sp a.rows a.work.now l.work _ l.q c.requires.0 (omega arith) (omega arith) l.invariant.1 c.bring.ensures)
+    carry_turn a.lay.now a.sp a.rows a.work.now l.work _ l.q c.requires.0 (omega arith) (omega arith) l.invariant c.bring.ensures
 
 pub returns : goal.returns
 returns c =
     let a = c.args in
     let l = c.loop-q in
-    carry_done a.lay.now a.sp a.rows a.work.now l.work l.q (omega arith) l.invariant.1
+    carry_done a.lay.now a.sp a.rows a.work.now l.work l.q (omega arith) l.invariant
