@@ -2,54 +2,59 @@
 -- Assumes nothing.
 use Prim.Native.Nat.{ℕ, ◌<◌}
 use mathlib.Core.Path.{◌≡◌, refl, sym}
-use mathlib.Core.Bool.{Bool, true, true≢false}
+use mathlib.Core.Bool.{Bool, true, false}
 use mathlib.Core.Logic.{◌⊎◌, inl, inr}
+use Rattle.std.specs.Prelude.{Option, Some}
+use Rattle.std.specs.Bool.{then_some}
 use Rattle.paper.specs.Rows.{Row, Empty, Range, Text, Alt, Seq, Star, Grammar, row, Keeps}
 use Rattle.paper.specs.Decide.{nullable}
 use Rattle.paper.proofs.Reaching.{nullable_right}
 use Rattle.paper.proofs.Sound.{SoundRow}
 use Rattle.rows.specs.Sets.{steps_of}
 
+-- a value that is there where a test passed
+some_of : (b : Bool) {a p : ℕ} → then_some b a ≡ Some p → (b ≡ true) × (a ≡ p)
+some_of true e = (refl, cc)
+some_of false e = cc
+
 -- they lead to rows
-pub steps_in : (null : ℕ → Bool) (text n : ℕ) (x : Row) → SoundRow text n x
-    → ((steps_of null x).first ≡ true → (steps_of null x).a < n) × ((steps_of null x).second ≡ true → (steps_of null x).b < n)
-unfolding steps_of
-steps_in null text n Empty h = (λ e. absurd (true≢false (sym e)), λ e. absurd (true≢false (sym e)))
-steps_in null text n (Range lo hi) h = (λ e. absurd (true≢false (sym e)), λ e. absurd (true≢false (sym e)))
-steps_in null text n (Text off len) h = (λ e. absurd (true≢false (sym e)), λ e. absurd (true≢false (sym e)))
-steps_in null text n (Alt a b) h = (λ e. h.0, λ e. h.1)
-steps_in null text n (Seq a b) h = (λ e. h.0, λ e. h.1)
-steps_in null text n (Star a) h = (λ e. h, λ e. absurd (true≢false (sym e)))
+leads : (null : ℕ → Bool) (text n : ℕ) (x : Row) → SoundRow text n x
+    → ((p : ℕ) → (steps_of null x).0 ≡ Some p → p < n) × ((p : ℕ) → (steps_of null x).1 ≡ Some p → p < n)
+leads null text n Empty h = ((λ p e. cc), (λ p e. cc))
+leads null text n (Range lo hi) h = ((λ p e. cc), (λ p e. cc))
+leads null text n (Text off len) h = ((λ p e. cc), (λ p e. cc))
+leads null text n (Alt a b) h = ((λ p e. let z : a ≡ p = cc in rw z at h.0), (λ p e. let z : b ≡ p = cc in rw z at h.1))
+leads null text n (Seq a b) h = ((λ p e. rw (some_of (null b) e).1 at h.0), (λ p e. rw (some_of (null a) e).1 at h.1))
+leads null text n (Star a) h = ((λ p e. let z : a ≡ p = cc in rw z at h), (λ p e. cc))
+
+pub steps_in : (null : ℕ → Bool) (text n : ℕ) (x : Row) {to : Option ℕ × Option ℕ} → to ≡ steps_of null x → SoundRow text n x
+    → ((p : ℕ) → to.0 ≡ Some p → p < n) × ((p : ℕ) → to.1 ≡ Some p → p < n)
+steps_in null text n x e h = rw e (leads null text n x h)
 
 module _ (g : Grammar) (r : ℕ) where
-  -- they keep the length
-  pub first_keeps : (x : Row) → x ≡ row g r → (steps_of (nullable g) x).first ≡ true → Keeps g r (steps_of (nullable g) x).a
-  unfolding steps_of
-  first_keeps Empty e h = absurd (true≢false (sym h))
-  first_keeps (Range lo hi) e h = absurd (true≢false (sym h))
-  first_keeps (Text off len) e h = absurd (true≢false (sym h))
-  first_keeps (Alt a b) e h = Keeps.keep_left (sym e)
-  first_keeps (Seq a b) e h = Keeps.keep_first (sym e) ((nullable_right g b).0 h)
-  first_keeps (Star a) e h = Keeps.keep_star (sym e)
-
-  pub second_keeps : (x : Row) → x ≡ row g r → (steps_of (nullable g) x).second ≡ true → Keeps g r (steps_of (nullable g) x).b
-  unfolding steps_of
-  second_keeps Empty e h = absurd (true≢false (sym h))
-  second_keeps (Range lo hi) e h = absurd (true≢false (sym h))
-  second_keeps (Text off len) e h = absurd (true≢false (sym h))
-  second_keeps (Alt a b) e h = Keeps.keep_right (sym e)
-  second_keeps (Seq a b) e h = Keeps.keep_second (sym e) ((nullable_right g a).0 h)
-  second_keeps (Star a) e h = absurd (true≢false (sym h))
-
   -- p is a child to which one of them leads
   abbrev pub Led : Row → ℕ → Type 0
-  Led x p = ((p ≡ (steps_of (nullable g) x).a) × ((steps_of (nullable g) x).first ≡ true)) ⊎ ((p ≡ (steps_of (nullable g) x).b) × ((steps_of (nullable g) x).second ≡ true))
+  Led x p = ((steps_of (nullable g) x).0 ≡ Some p) ⊎ ((steps_of (nullable g) x).1 ≡ Some p)
+
+  -- they keep the length
+  pub led_keeps : (x : Row) (p : ℕ) → x ≡ row g r → Led x p → Keeps g r p
+  led_keeps Empty p e (inl h) = cc
+  led_keeps Empty p e (inr h) = cc
+  led_keeps (Range lo hi) p e (inl h) = cc
+  led_keeps (Range lo hi) p e (inr h) = cc
+  led_keeps (Text off len) p e (inl h) = cc
+  led_keeps (Text off len) p e (inr h) = cc
+  led_keeps (Alt a b) p e (inl h) = let z : a ≡ p = cc in Keeps.keep_left (rw z at (sym e))
+  led_keeps (Alt a b) p e (inr h) = let z : b ≡ p = cc in Keeps.keep_right (rw z at (sym e))
+  led_keeps (Seq a b) p e (inl h) = let z = some_of (nullable g b) h in Keeps.keep_first (rw z.1 at (sym e)) ((nullable_right g b).0 z.0)
+  led_keeps (Seq a b) p e (inr h) = let z = some_of (nullable g a) h in Keeps.keep_second (rw z.1 at (sym e)) ((nullable_right g a).0 z.0)
+  led_keeps (Star a) p e (inl h) = let z : a ≡ p = cc in Keeps.keep_star (rw z at (sym e))
+  led_keeps (Star a) p e (inr h) = cc
 
   -- and there are no others
   pub keeps_led : (p : ℕ) → Keeps g r p → Led (row g r) p
-  unfolding steps_of
-  keeps_led p (Keeps.keep_left e) = rw e (inl (refl, refl))
-  keeps_led p (Keeps.keep_right e) = rw e (inr (refl, refl))
-  keeps_led p (Keeps.keep_first {b = d} e n) = rw e (inl (refl, (nullable_right g d).1 n))
-  keeps_led p (Keeps.keep_second {a = c} e n) = rw e (inr (refl, (nullable_right g c).1 n))
-  keeps_led p (Keeps.keep_star e) = rw e (inl (refl, refl))
+  keeps_led p (Keeps.keep_left e) = rw e (inl refl)
+  keeps_led p (Keeps.keep_right e) = rw e (inr refl)
+  keeps_led p (Keeps.keep_first {b = d} e n) = rw (e, (nullable_right g d).1 n) (inl refl)
+  keeps_led p (Keeps.keep_second {a = c} e n) = rw (e, (nullable_right g c).1 n) (inr refl)
+  keeps_led p (Keeps.keep_star e) = rw e (inl refl)

@@ -2,7 +2,7 @@
 -- Assumes nothing.
 use Prim.Native.Nat.{ℕ, ◌+◌, ◌*◌, ◌≤◌, ◌<◌}
 use mathlib.Core.Path.{◌≡◌, refl, sym, ap, ◌∙◌, subst, fun_ext}
-use mathlib.Core.Bool.{Bool, true, false, cond, ◌||◌, true≢false}
+use mathlib.Core.Bool.{Bool, true, false, ◌||◌, true≢false}
 use mathlib.Core.Logic.{◌⊎◌, inl, inr}
 use mathlib.Core.List.{List}
 use native.Mathlib.Decide.{ℕ_discrete}
@@ -17,11 +17,11 @@ use Rattle.paper.proofs.Reaching.{reaches_sound, reaches_from, keeps_below}
 use Rattle.workspace.specs.Bits.{bit_at, set_bit, wiped, joined}
 use Rattle.workspace.specs.Room.{Grows}
 use Rattle.workspace.proofs.Bits.{set_bit_same, set_bit_other, set_bit_apart, length_wiped, wiped_bit, wiped_apart, joined_bit, joined_apart}
-use Rattle.rows.specs.declared.Steps.{Steps}
+use Rattle.std.specs.Prelude.{Option, Some, None}
 use Rattle.rows.specs.Sets.{steps_of, passed_on, Started, Nulls, Reached, ReachSound, ReachSettled}
 use Rattle.rows.specs.Passes.{Turn}
 use Rattle.rows.proofs.Passes.{grows_then}
-use Rattle.rows.proofs.ByKind.{first_keeps, second_keeps, keeps_led}
+use Rattle.rows.proofs.ByKind.{led_keeps, keeps_led}
 
 -- one step more at the end
 reach_on : (g : Grammar) {x r p : ℕ} → Reach g x r → Keeps g r p → Reach g x p
@@ -36,17 +36,8 @@ or_no_right : (x y : Bool) → (x || y) ≡ false → y ≡ false
 or_no_right true y e = absurd (true≢false e)
 or_no_right false y e = e
 
-module _ (on : Bool) (p r : ℕ) (ws : List ℕ) where
-  pub passed_yes : on ≡ true → joined ws p ws r ≡ passed_on on p r ws
-  unfolding passed_on
-  passed_yes e = rw e
-
-  pub passed_no : on ≡ false → ws ≡ passed_on on p r ws
-  unfolding passed_on
-  passed_no e = rw e
-
 -- steps by the bits are steps by the rows that derive the empty word
-pub steps_null : {g : Grammar} {ws : List ℕ} {to : Steps} (x : Row) → Nulls g ws → to ≡ steps_of (bit_at ws 0) x → to ≡ steps_of (nullable g) x
+pub steps_null : {g : Grammar} {ws : List ℕ} {to : Option ℕ × Option ℕ} (x : Row) → Nulls g ws → to ≡ steps_of (bit_at ws 0) x → to ≡ steps_of (nullable g) x
 steps_null x z e = e ∙ ap (λ (u : ℕ → Bool). steps_of u x) (fun_ext z.bits)
 
 -- what reaches r is joined to what reaches p, where there is a step
@@ -65,33 +56,31 @@ joined_sound g ws p r l room k s = record { self = λ q h. mine q h (ℕ_discret
     at q x h e (yes z) = rw z (from x (or_cases (bit_at ws p x) (bit_at ws r x) (sym (joined_bit ws p ws r room x) ∙ rw z at e)) (rw z at h))
     at q x h e (no n) = s.right q x h (sym (joined_apart ws p ws r q x n) ∙ e)
 
--- a row's turn: a step to a, then a step to b
-module _ (g : Grammar) (r : ℕ) (x : Row) (is : x ≡ row g r) (l : r < length g.rows) {old mid now : List ℕ} {to : Steps} (steps : to ≡ steps_of (nullable g) x)
-    (ha : to.first ≡ true → 4 * to.a + 4 ≤ length old) (hb : to.second ≡ true → 4 * to.b + 4 ≤ length mid)
-    (e : mid ≡ passed_on to.first to.a r old) (f : now ≡ passed_on to.second to.b r mid) where
+-- a row's turn: its two steps, one after the other
+module _ (g : Grammar) (r : ℕ) (x : Row) (is : x ≡ row g r) (l : r < length g.rows) {old mid now : List ℕ} {to : Option ℕ × Option ℕ} (steps : to ≡ steps_of (nullable g) x)
+    (ha : (p : ℕ) → to.0 ≡ Some p → 4 * p + 4 ≤ length old) (hb : (p : ℕ) → to.1 ≡ Some p → 4 * p + 4 ≤ length mid)
+    (e : mid ≡ passed_on to.0 r old) (f : now ≡ passed_on to.1 r mid) where
   turn_sound : ReachSound g old → ReachSound g now
-  unfolding passed_on
-  turn_sound s = rw f (two to.second refl (rw e (one to.first refl)))
+  turn_sound s = rw f (two to.1 refl (rw e (one to.0 refl)))
     where
-      one : (on : Bool) → to.first ≡ on → ReachSound g (cond on (joined old to.a old r) old)
-      one true z = joined_sound g old to.a r l (ha z) (rw steps (first_keeps g r x is (rw steps at z))) s
-      one false z = s
+      one : (to' : Option ℕ) → to.0 ≡ to' → ReachSound g (passed_on to' r old)
+      one (Some p) z = joined_sound g old p r l (ha p z) (led_keeps g r x p is (inl (rw steps at z))) s
+      one None z = s
 
-      two : (on : Bool) → to.second ≡ on → ReachSound g mid → ReachSound g (cond on (joined mid to.b mid r) mid)
-      two true z m = joined_sound g mid to.b r l (hb z) (rw steps (second_keeps g r x is (rw steps at z))) m
-      two false z m = m
+      two : (to' : Option ℕ) → to.1 ≡ to' → ReachSound g mid → ReachSound g (passed_on to' r mid)
+      two (Some p) z m = joined_sound g mid p r l (hb p z) (led_keeps g r x p is (inr (rw steps at z))) m
+      two None z m = m
 
   turn_settled : mid ≡ old → now ≡ mid → ReachSettled g now r
-  unfolding passed_on
   turn_settled same same' t q k h = at (rw (← is, ← steps) at (keeps_led g r t k))
     where
-      at : ((t ≡ to.a) × (to.first ≡ true)) ⊎ ((t ≡ to.b) × (to.second ≡ true)) → bit_at now t q ≡ true
+      at : (to.0 ≡ Some t) ⊎ (to.1 ≡ Some t) → bit_at now t q ≡ true
       at (inl z) =
-          let there : mid ≡ joined old to.a old r = e ∙ rw z.1 in
-          rw (z.0, same', there, joined_bit old to.a old r (ha z.1) q) (or_right (bit_at old to.a q) (bit_at old r q) (rw (same', same) at h))
+          let there : mid ≡ joined old t old r = e ∙ rw z in
+          rw (same', there, joined_bit old t old r (ha t z) q) (or_right (bit_at old t q) (bit_at old r q) (rw (same', same) at h))
       at (inr z) =
-          let there : now ≡ joined mid to.b mid r = f ∙ rw z.1 in
-          rw (z.0, there, joined_bit mid to.b mid r (hb z.1) q) (or_right (bit_at mid to.b q) (bit_at mid r q) (rw same' at h))
+          let there : now ≡ joined mid t mid r = f ∙ rw z in
+          rw (there, joined_bit mid t mid r (hb t z) q) (or_right (bit_at mid t q) (bit_at mid r q) (rw same' at h))
 
   pub reach_turned : (x y : Bool) {new : Bool} → Grows x old mid → Grows y mid now → new ≡ (x || y) → Turn (ReachSound g) (ReachSettled g) r new old now
   reach_turned x y gx gy n = record {

@@ -26,3 +26,8 @@ module _ (Sound : List ℕ → Type 0) (Settled : List ℕ → ℕ → Type 0) w
     pub grows : Grows new old now
     pub sound : Sound old → Sound now
     pub settled : new ≡ false → (r : ℕ) → r < n → Settled now r
+
+  -- passes were done until one added nothing
+  pub record Done (n : ℕ) (old now : List ℕ) : Type 0 where
+    pub sound : Sound old → Sound now
+    pub rows : (r : ℕ) → r < n → Settled now r

@@ -1,12 +1,12 @@
 -- The two sets that are made once a call, as bits of a table: the rows that derive the empty word, and for each row the rows that reach it.
-use Rattle.std.specs.Prelude.{ℕ, ◌<◌, ◌≡◌, Bool, true, false, cond, List, eqb, length}
+use Rattle.std.specs.Prelude.{ℕ, ◌<◌, ◌≡◌, Bool, true, List, Option, Some, None, eqb, length}
+use Rattle.std.specs.Bool.{then_some}
 use Rattle.paper.specs.Rows.{Row, Empty, Range, Text, Alt, Seq, Star, Grammar, Keeps, Reach}
 use Rattle.paper.specs.Decide.{null_rule, nullable, reaches}
 use Rattle.workspace.specs.Bits.{bit_at, joined}
 use Rattle.sheet_trailer.specs.declared.Table.{Table}
 use Rattle.sheet_trailer.specs.Tables.{TableOf}
 use Rattle.sheet.specs.Good.{Good}
-use Rattle.rows.specs.declared.Steps.{Steps}
 
 -- entry 0 holds the rows that derive the empty word
 pub record Nulls (g : Grammar) (ws : List ℕ) : Type 0 where
@@ -21,22 +21,19 @@ pub record RowsAt (s : List ℕ) (t : Table) : Type 0 where
   pub good : Good s
   pub table : TableOf s 2 t
 
--- a step that keeps the length leads to child a where `first` says so, and to child b where `second` does
-abbrev pub steps_to : ℕ → Bool → ℕ → Bool → Steps
-steps_to a first b second = record { a = a; first = first; b = b; second = second }
-
--- the steps of a row to its children, given the rows that derive the empty word
-unfoldable pub steps_of : (ℕ → Bool) → Row → Steps
-steps_of null Empty = steps_to 0 false 0 false
-steps_of null (Range lo hi) = steps_to 0 false 0 false
-steps_of null (Text off len) = steps_to 0 false 0 false
-steps_of null (Alt a b) = steps_to a true b true
-steps_of null (Seq a b) = steps_to a (null b) b (null a)
-steps_of null (Star a) = steps_to a true 0 false
+-- the children of a row to which a step leads that keeps the length, given the rows that derive the empty word
+abbrev pub steps_of : (ℕ → Bool) → Row → Option ℕ × Option ℕ
+steps_of null Empty = (None, None)
+steps_of null (Range lo hi) = (None, None)
+steps_of null (Text off len) = (None, None)
+steps_of null (Alt a b) = (Some a, Some b)
+steps_of null (Seq a b) = (then_some (null b) a, then_some (null a) b)
+steps_of null (Star a) = (Some a, None)
 
 -- where there is a step from r to p, what reaches r is joined to what reaches p
-unfoldable pub passed_on : Bool → (p r : ℕ) → List ℕ → List ℕ
-passed_on on p r ws = cond on (joined ws p ws r) ws
+abbrev pub passed_on : Option ℕ → (r : ℕ) → List ℕ → List ℕ
+passed_on (Some p) r ws = joined ws p ws r
+passed_on None r ws = ws
 
 -- of the first n entries, each holds its own row alone
 abbrev pub Started : ℕ → List ℕ → Type 0
