@@ -1,14 +1,14 @@
 -- What the readers of a cut list hand on.
-use Rattle.std.specs.Prelude.{ℕ, ◌+◌, ◌*◌, ◌<◌, ◌≤◌, ◌≡◌, Bool, true, false, List, length}
+use Rattle.std.specs.Prelude.{ℕ, ◌+◌, ◌*◌, ◌<◌, ◌≤◌, ◌≡◌, Bool, List, length}
 use Rattle.paper.specs.Bytes.{u8_at, u16_at}
 use Rattle.paper.specs.Cuts.{Opt, Byte, Stretch, Split, Nil}
 use Rattle.paper.specs.Gate.{n_of, rows_of, root_of, trailer_of, option_ok}
 use Rattle.list.specs.declared.fields.Trailer.{Trailer}
 use Rattle.list.specs.declared.fields.Fields.{Fields}
+use Rattle.list.specs.declared.fields.Kind as kind
+use Rattle.list.specs.declared.fields.Kind.TheVariants as by
 use Rattle.list.specs.declared.fields.Opt as read
 use Rattle.list.specs.declared.fields.Opt.TheVariants as case
-use Rattle.list.specs.declared.Past.{Past}
-use Rattle.list.specs.declared.Past.TheVariants.{End, Broken}
 
 -- the trailer of a list whose trailer is right, with its limits
 pub record Trailed (l : List ℕ) (t : Trailer) : Type 0 where
@@ -32,6 +32,13 @@ pub record Fielded (l : List ℕ) (o : ℕ) (f : Fields) : Type 0 where
   pub a_small : f.a < 65536
   pub b_small : f.b < 65536
 
+-- the byte of a kind
+abbrev pub byte_of : kind.Kind → ℕ
+byte_of by.Byte = 1
+byte_of by.Stretch = 2
+byte_of by.Split = 3
+byte_of by.Nil = 4
+
 -- the paper's option that an option read is
 abbrev pub option_of : read.Opt → Opt
 option_of (case.Byte lo hi) = Byte lo hi
@@ -42,8 +49,3 @@ option_of case.Nil = Nil
 -- option j of those from o on obeys
 abbrev pub option_from : List ℕ → (text m o j : ℕ) → Bool
 option_from l text m o j = option_ok l text m (o + 8 * j)
-
--- where what was looked at ends, if it keeps its rule
-abbrev pub past_of : Bool → ℕ → Past
-past_of true e = End e
-past_of false e = Broken

@@ -1,9 +1,9 @@
 // Readers of a cut list's numbers: its trailer and its options.
-ghost use Rattle.std.specs.Prelude.{◌≡◌, true, ◌&&◌, ◌+◌, ◌*◌, ◌-◌, ◌≤◌, ◌<◌, length, leb, ltb};
+ghost use Rattle.std.specs.Prelude.{◌≡◌, true, ◌&&◌, ◌⊎◌, ◌+◌, ◌*◌, ◌-◌, ◌≤◌, ◌<◌, length, leb, ltb, MatchOption};
 ghost use Rattle.paper.specs.Bytes.{mark_at};
 ghost use Rattle.paper.specs.Trailer.{limit};
 ghost use Rattle.paper.specs.Gate.{n_of, rows_of, root_of, trailer_ok, opt_of};
-ghost use Rattle.list.specs.Read.{Trailed, Fielded, option_of};
+ghost use Rattle.list.specs.Read.{Trailed, Fielded, byte_of, option_of};
 
 // The mark `CUT1` at the list's end.
 fn mark_ok(list: &[u8]) -> bool
@@ -19,44 +19,22 @@ fn counts_ok(list: &[u8]) -> bool
     ensures { result ≡ (leb (n_of list.now) limit && (leb (4 * n_of list.now + 20) (length list.now) && (leb 1 (rows_of list.now) && (leb (rows_of list.now) 256 && ltb (root_of list.now) (rows_of list.now))))) }
 {
     let len = list.len();
-    let n = numbers::wide(list[len - 12]);
-    if n > 60 {
-        return false;
-    }
-    if 4 * n + 20 > len {
-        return false;
-    }
+    let n = usize::from(list[len - 12]);
     let rows = numbers::u16_at(list, len - 14);
-    if rows < 1 {
-        return false;
-    }
-    if rows > 256 {
-        return false;
-    }
-    numbers::u16_at(list, len - 16) < rows
+    let root = numbers::u16_at(list, len - 16);
+    n <= 60 && 4 * n + 20 <= len && 1 <= rows && rows <= 256 && root < rows
 }
 
+#[tactic(auto, unfolding(paper::specs::Gate::trailer_ok))]
 pub fn trailer_ok(list: &[u8]) -> bool
     requires { 20 ≤ length list.now }
     ensures { result ≡ trailer_ok list.now }
 {
     let len = list.len();
-    if !mark_ok(list) {
-        return false;
-    }
-    if numbers::u32_at(list, len - 8) != len {
-        return false;
-    }
-    if list[len - 11] != 0 {
-        return false;
-    }
-    if list[len - 10] != 0 {
-        return false;
-    }
-    if list[len - 9] != 0 {
-        return false;
-    }
-    counts_ok(list)
+    mark_ok(list)
+        && numbers::u32_at(list, len - 8) == len
+        && list[len - 11..len - 8] == [0, 0, 0]
+        && counts_ok(list)
 }
 
 // The trailer of a list: its n, its row count, its root, and where the trailer begins.
@@ -73,7 +51,7 @@ pub fn trailer_of(list: &[u8]) -> Trailer
     ensures { Trailed list.now result }
 {
     let len = list.len();
-    let n = numbers::wide(list[len - 12]);
+    let n = usize::from(list[len - 12]);
     let rows = numbers::u16_at(list, len - 14);
     let root = numbers::u16_at(list, len - 16);
     Trailer {
@@ -97,11 +75,35 @@ pub fn fields_at(list: &[u8], o: usize) -> Fields
     requires { o + 8 ≤ length list.now }
     ensures { Fielded list.now o result }
 {
-    let kind = list[o];
-    let k = numbers::wide(list[o + 1]);
-    let a = numbers::u16_at(list, o + 2);
-    let b = numbers::u16_at(list, o + 4);
-    Fields { kind, k, a, b }
+    Fields {
+        kind: list[o],
+        k: usize::from(list[o + 1]),
+        a: numbers::u16_at(list, o + 2),
+        b: numbers::u16_at(list, o + 4),
+    }
+}
+
+// An option's kind, by its byte.
+#[derive(Clone, Copy)]
+pub enum Kind {
+    Byte,
+    Stretch,
+    Split,
+    Nil,
+}
+
+impl Kind {
+    pub fn of(byte: u8) -> Option<Self>
+        ensures { MatchOption result ((byte ≡ 0) ⊎ (4 < byte)) (λ kind. byte ≡ byte_of kind) }
+    {
+        match byte {
+            1 => Some(Kind::Byte),
+            2 => Some(Kind::Stretch),
+            3 => Some(Kind::Split),
+            4 => Some(Kind::Nil),
+            _ => None,
+        }
+    }
 }
 
 // An option: one byte, a stretch of the text, the first k bytes by one row and the rest by another, or no byte.
@@ -113,16 +115,16 @@ pub enum Opt {
     Nil,
 }
 
+#[tactic(auto, unfolding(paper::specs::Gate::opt_of))]
 pub fn option_at(list: &[u8], o: usize) -> Opt
     requires { o + 8 ≤ length list.now }
     ensures { option_of result ≡ opt_of list.now o }
 {
     let f = fields_at(list, o);
-    let kind = f.kind;
-    match kind {
-        1 => Opt::Byte(f.a, f.b),
-        2 => Opt::Stretch(f.a, f.b),
-        3 => Opt::Split(f.k, f.a, f.b),
-        0 | 4..=255 => Opt::Nil,
+    match Kind::of(f.kind) {
+        Some(Kind::Byte) => Opt::Byte(f.a, f.b),
+        Some(Kind::Stretch) => Opt::Stretch(f.a, f.b),
+        Some(Kind::Split) => Opt::Split(f.k, f.a, f.b),
+        Some(Kind::Nil) | None => Opt::Nil,
     }
 }

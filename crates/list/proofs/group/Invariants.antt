@@ -1,15 +1,11 @@
 use Rattle.paper.specs.Gate.{head_at, entry_ok}
 use mathlib.Core.Bool.{true}
 use mathlib.Core.Path.{◌≡◌}
-use Prim.Native.Nat.{◌-◌, ◌≤◌}
+use Prim.Native.Nat.{◌≤◌}
 use Rattle.paper.specs.Tests.{all_below}
 use Rattle.list.proofs.group.Given as goal
 
 -- the heads of the first r rows obey, and o is where the next one begins
 abbrev pub invariant-loop-r : goal.invariant-loop-r
 invariant-loop-r l =
-    (l.r ≤ l.rows) × (l.o ≡ head_at l.list l.m l.r) × (l.o ≤ l.t.base) × (all_below l.r (entry_ok l.list l.text l.m) ≡ true)
-
-abbrev pub decreases-loop-r : goal.decreases-loop-r
-decreases-loop-r l =
-    l.rows - l.r
+    (l.o ≡ head_at l.list l.m l.r) × (l.o ≤ l.t.base) × (all_below l.r (entry_ok l.list l.text l.m) ≡ true)

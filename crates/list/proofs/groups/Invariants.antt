@@ -1,6 +1,6 @@
 use mathlib.Core.Bool.{true}
 use mathlib.Core.Path.{◌≡◌}
-use Prim.Native.Nat.{◌+◌, ◌-◌, ◌≤◌}
+use Prim.Native.Nat.{◌≤◌}
 use Rattle.paper.specs.Gate.{group_ok, group_begin}
 use Rattle.paper.specs.Tests.{all_below}
 use Rattle.list.proofs.groups.Given as goal
@@ -8,8 +8,4 @@ use Rattle.list.proofs.groups.Given as goal
 -- the first m groups obey and meet, and `at` is where the next one begins
 abbrev pub invariant-loop-m : goal.invariant-loop-m
 invariant-loop-m l =
-    (l.m ≤ l.n + 1) × (l.at ≡ group_begin l.list l.m) × (l.at ≤ l.base) × (all_below l.m (group_ok l.list l.text) ≡ true)
-
-abbrev pub decreases-loop-m : goal.decreases-loop-m
-decreases-loop-m l =
-    l.n + 1 - l.m
+    (l.at ≡ group_begin l.list l.m) × (l.at ≤ l.t.base) × (all_below l.m (group_ok l.list l.text) ≡ true)

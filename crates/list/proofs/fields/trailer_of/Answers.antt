@@ -21,7 +21,7 @@ returns c =
     let k = known (goal.at.returns c).Start in
     let z = u32_small l (length l - 8) (λ i. omega (arith, c.shared_slice_known-1.given i)) in
     record {
-      length_is = c.wide-n.ensures.0;
+      length_is = search rules;
       rows_are = c.u16_at-rows.ensures.0;
       root_is = c.u16_at-root.ensures.0;
       base_is = search rules;
