@@ -29,11 +29,8 @@ fn level(s: &[u8], rows: Table, places: &[u16], lay: &[u64], work: &mut [u64], m
     requires { Charting s.now rows places.now lay.now work.old × (0 < m) × (m ≤ length places.now) × Filled (derivable s.now places.now) (length places.now) m 0 work.old }
     ensures { Grown (derivable s.now places.now) (length places.now) (m + 1) work.old work.new }
 {
-    let n = places.len();
-    let mut i = 0;
-    while i + m <= n {
+    for i in 0..=places.len() - m {
         cell(s, rows, places, lay, work, i, m);
-        i += 1;
     }
 }
 
@@ -42,11 +39,9 @@ fn empties(lay: &[u64], work: &mut [u64], n: usize)
     requires { (n ≤ 60) × (1028 ≤ length lay.now) × (7564 ≤ length work.old) }
     ensures { Grown (emptied lay.now) n 1 work.old work.new }
 {
-    let mut i = 0;
-    while i <= n {
+    for i in 0..=n {
         let sp = workspace::span(i, 0);
         workspace::copy(work, sp, lay, 256);
-        i += 1;
     }
 }
 
@@ -57,10 +52,8 @@ pub fn fill(s: &[u8], rows: Table, places: &[u16], lay: &[u64], work: &mut [u64]
 {
     let n = places.len();
     empties(lay, work, n);
-    let mut m = 1;
-    while m <= n {
+    for m in 1..=n {
         level(s, rows, places, lay, work, m);
-        m += 1;
     }
 }
 

@@ -20,11 +20,7 @@ fn holds(r: Row, x: usize) -> bool
 {
     match r {
         Row::Range(low, high) => low <= x && x <= high,
-        Row::Empty => false,
-        Row::Text(_, _) => false,
-        Row::Alt(_, _) => false,
-        Row::Seq(_, _) => false,
-        Row::Star(_) => false,
+        Row::Empty | Row::Text(_, _) | Row::Alt(_, _) | Row::Seq(_, _) | Row::Star(_) => false,
     }
 }
 
@@ -33,10 +29,7 @@ fn no_range(lay: &[u64], x: usize) -> bool
     requires { (1036 ≤ length lay.now) × (x < 256) }
     ensures { result ≡ no_range lay.now x }
 {
-    if workspace::none(lay, 257) {
-        return groundwork::is_letter(lay, x);
-    }
-    false
+    workspace::none(lay, 257) && groundwork::is_letter(lay, x)
 }
 
 // The ranges that hold the byte x, into span sp.
@@ -47,11 +40,9 @@ fn ranges(s: &[u8], rows: Table, lay: &[u64], x: usize, work: &mut [u64], sp: us
     if no_range(lay, x) {
         return;
     }
-    let mut q = 0;
-    while q < rows.count {
+    for q in 0..rows.count {
         let on = holds(sheet::row_at(s, rows, q), x);
         chart_cells::put(work, sp, q, on);
-        q += 1;
     }
 }
 
@@ -124,18 +115,8 @@ fn text_fits(
     ensures { result ≡ fitting (text_of s.now) (allowed s.now places.now) m i (row (grammar_of s.now) q) }
 {
     match sheet::row_at(s, rows, q) {
-        Row::Text(a, len) => {
-            if len != m {
-                return false;
-            }
-            let e = a + len;
-            can_hold_all(&text[a..e], places, i, lay)
-        }
-        Row::Empty => false,
-        Row::Range(_, _) => false,
-        Row::Alt(_, _) => false,
-        Row::Seq(_, _) => false,
-        Row::Star(_) => false,
+        Row::Text(a, len) => len == m && can_hold_all(&text[a..a + len], places, i, lay),
+        Row::Empty | Row::Range(_, _) | Row::Alt(_, _) | Row::Seq(_, _) | Row::Star(_) => false,
     }
 }
 
@@ -165,10 +146,8 @@ pub fn texts(
         return;
     }
     let text = sheet::text_of(s);
-    let mut q = 0;
-    while q < rows.count {
+    for q in 0..rows.count {
         let on = text_fits(s, rows, q, text, places, i, m, lay);
         chart_cells::put(work, sp, q, on);
-        q += 1;
     }
 }

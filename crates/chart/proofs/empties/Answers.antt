@@ -1,3 +1,4 @@
+use Prim.Native.Nat.{◌+◌}
 use native.Mathlib.Omega.{arith}
 use Rattle.chart.specs.Cells.{emptied}
 use Rattle.chart.proofs.Filling.{filled_none, filled_more, filled_level, within_none, within_then, cell_within}
@@ -7,7 +8,7 @@ use Rattle.chart.proofs.empties.Goals as goal
 pub loop-i-init : goal.loop-i-init
 loop-i-init c =
     let a = c.args in
-    (omega arith, filled_none (emptied a.lay.now) a.n a.work.now, within_none a.work.now)
+    (filled_none (emptied a.lay.now) a.n a.work.now, within_none a.work.now)
 
 pub copy-requires : goal.copy-requires
 copy-requires c = (omega arith, omega arith)
@@ -17,10 +18,14 @@ loop-i-preserved c =
     let a = c.args in
     let l = c.loop-i in
     let one = empty_cell a.lay.now l.work _ _ l.i c.span-sp.ensures.0 (omega arith) (omega arith) c.copy.ensures in
-    (omega arith, filled_more (emptied a.lay.now) a.n 0 l.i l.work _ l.invariant.1 one, within_then a.work.now l.work _ l.invariant.2 (cell_within (emptied a.lay.now) 0 l.i l.work _ one))
+    (filled_more (emptied a.lay.now) a.n 0 l.i l.work _ l.invariant.0 one, within_then a.work.now l.work _ l.invariant.1 (cell_within (emptied a.lay.now) 0 l.i l.work _ one))
 
-pub returns : goal.returns
-returns c =
+pub returns-2 : goal.returns-2
+returns-2 c =
     let a = c.args in
     let l = c.loop-i in
-    record { filled = filled_level (emptied a.lay.now) a.n 0 l.i l.work (omega arith) l.invariant.1; within = l.invariant.2 }
+    let one = empty_cell a.lay.now l.work _ _ l.i c.span-sp.ensures.0 (omega arith) (omega arith) c.copy.ensures in
+    record {
+      filled = filled_level (emptied a.lay.now) a.n 0 (l.i + 1) _ (omega arith) (filled_more (emptied a.lay.now) a.n 0 l.i l.work _ l.invariant.0 one);
+      within = within_then a.work.now l.work _ l.invariant.1 (cell_within (emptied a.lay.now) 0 l.i l.work _ one);
+    }

@@ -10,23 +10,23 @@ empties-requires c =
     (p.short, omega (arith, p.lent.ground.long), p.lent.room)
 
 pub loop-m-init : goal.loop-m-init
-loop-m-init c = (omega arith, omega arith, record { filled = empties_right c.requires _ c.empties.ensures.filled; within = within_none _ })
+loop-m-init c = record { filled = empties_right c.requires _ c.empties.ensures.filled; within = within_none _ }
 
 pub level-requires : goal.level-requires
 level-requires c =
     let l = c.loop-m in
-    (still c.requires (l.invariant.2.within.long ∙ c.empties.ensures.within.long), l.invariant.0, omega arith, l.invariant.2.filled)
+    (still c.requires (l.invariant.within.long ∙ c.empties.ensures.within.long), omega arith, omega arith, l.invariant.filled)
 
 pub loop-m-preserved : goal.loop-m-preserved
 loop-m-preserved c =
     let l = c.loop-m in
     let x = c.level.ensures in
-    (omega arith, omega arith, record { filled = x.filled; within = within_then _ l.work _ l.invariant.2.within x.within })
+    record { filled = x.filled; within = within_then _ l.work _ l.invariant.within x.within }
 
 pub shape_of-work : goal.shape_of-work
-shape_of-work c = c.loop-m.invariant.2.within.long ∙ c.empties.ensures.within.long
+shape_of-work c = c.loop-m.invariant.within.long ∙ c.empties.ensures.within.long
 
 pub returns : goal.returns
 returns c =
     let l = c.loop-m in
-    charted _ _ _ _ l.m (omega arith) l.invariant.2.filled (within_then _ _ _ c.empties.ensures.within l.invariant.2.within)
+    charted _ _ _ _ l.m (omega arith) l.invariant.filled (within_then _ _ _ c.empties.ensures.within l.invariant.within)

@@ -6,6 +6,6 @@ pub returns-then-none : goal.returns-then-none
 unfolding no_range
 returns-then-none c = rw (sym c.none.ensures ∙ c.if-none.true) c.is_letter.ensures
 
-pub returns : goal.returns
+pub returns-else-none : goal.returns-else-none
 unfolding no_range
-returns c = rw (sym c.none.ensures ∙ c.if-none.false)
+returns-else-none c = rw (sym c.none.ensures ∙ c.if-none.false) c.if-none.false

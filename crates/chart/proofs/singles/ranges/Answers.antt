@@ -19,7 +19,7 @@ returns-then-no_range c =
     adds_none _ _ _ (no_holding _ _ p.2 _ _ (sym c.no_range.ensures ∙ c.if-no_range.true) (rows_few p.0 p.1))
 
 pub loop-q-init : goal.loop-q-init
-loop-q-init c = (omega arith, adds_none _ _ _ (among_none _ _))
+loop-q-init c = adds_none _ _ _ (among_none _ _)
 
 pub row_at-requires : goal.row_at-requires
 row_at-requires c = (c.requires.0, c.requires.1, omega arith)
@@ -27,7 +27,7 @@ row_at-requires c = (c.requires.0, c.requires.1, omega arith)
 pub put-requires : goal.put-requires
 put-requires c =
     let p = c.requires in
-    (p.4, omega (arith, rows_few p.0 p.1), omega (arith, p.5, c.loop-q.invariant.1.kept.long))
+    (p.4, omega (arith, rows_few p.0 p.1), omega (arith, p.5, c.loop-q.invariant.kept.long))
 
 pub loop-q-preserved : goal.loop-q-preserved
 unfolding holding
@@ -35,13 +35,13 @@ loop-q-preserved c =
     let a = c.args in
     let l = c.loop-q in
     let on = c.holds-on.ensures ∙ ap (holding a.x) c.row_at.ensures.same in
-    (omega arith, among_turn _ (holding a.x) _ l.q _ l.work _ l.invariant.1 _ on c.put.ensures)
+    among_turn _ (holding a.x) _ l.q _ l.work _ l.invariant _ on c.put.ensures
 
 pub shape_of-work : goal.shape_of-work
-shape_of-work c = c.loop-q.invariant.1.kept.long
+shape_of-work c = c.loop-q.invariant.kept.long
 
 pub returns : goal.returns
 returns c =
     let a = c.args in
     let l = c.loop-q in
-    subst (λ (n : ℕ). Adds a.sp (among (grammar_of a.s.now) (holding a.x) n) a.work.now l.work) (omega arith) l.invariant.1
+    subst (λ (n : ℕ). Adds a.sp (among (grammar_of a.s.now) (holding a.x) n) a.work.now l.work) (omega arith) l.invariant

@@ -1,4 +1,3 @@
-use Prim.Native.Nat.{◌≤◌, ◌-◌}
 use Rattle.paper.specs.Sheet.{grammar_of}
 use Rattle.chart_cells.specs.Steps.{Adds}
 use Rattle.chart.specs.Cells.{holding, among}
@@ -6,7 +5,4 @@ use Rattle.chart.proofs.singles.ranges.Given as goal
 
 -- the ranges among the rows below q are in
 abbrev pub invariant-loop-q : goal.invariant-loop-q
-invariant-loop-q l = (l.q ≤ l.rows.count) × Adds l.sp (among (grammar_of l.s) (holding l.x) l.q) l.initial.work l.work
-
-abbrev pub decreases-loop-q : goal.decreases-loop-q
-decreases-loop-q l = l.rows.count - l.q
+invariant-loop-q l = Adds l.sp (among (grammar_of l.s) (holding l.x) l.q) l.initial.work l.work

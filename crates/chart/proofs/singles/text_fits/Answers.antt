@@ -1,8 +1,9 @@
 use Prim.Native.Nat.{◌+◌, ◌≤◌}
 use mathlib.Core.Path.{ap, ◌∙◌}
+use mathlib.Core.Logic.{inl, inr}
 use lib.ListN.{length}
 use borrow.Author.Tests.{eq-eqb, ne_eqb}
-use Rattle.sheet.proofs.Contents.{text_length, text_few}
+use Rattle.sheet.proofs.Contents.{text_length}
 use Rattle.chart.specs.Cells.{fitting}
 use Rattle.chart.proofs.Rows.{part_size, part_fits}
 use native.Mathlib.Omega.{arith}
@@ -15,16 +16,7 @@ inside c =
     let p = c.requires in
     omega (arith, rw c.in-Text.is at c.row_at.ensures.sound, ap length p.3, text_length _ p.0)
 
-pub returns-then-len-m : goal.returns-then-len-m
-unfolding fitting
-returns-then-len-m c = rw (← c.row_at.ensures.same, c.in-Text.is, ne_eqb _ _ c.if-len-m.true)
-
-pub overflow_add-e : goal.overflow_add-e
-unfolding fitting
-overflow_add-e c = omega (arith, inside (goal.at.overflow_add-e c).In-Text, text_few _ c.requires.0 _ c.requires.3)
-
 pub slice_bounds-can_hold_all-end : goal.slice_bounds-can_hold_all-end
-unfolding fitting
 slice_bounds-can_hold_all-end c = inside (goal.at.slice_bounds-can_hold_all-end c).In-Text
 
 pub can_hold_all-requires : goal.can_hold_all-requires
@@ -33,29 +25,25 @@ can_hold_all-requires c =
     let size = part_size c.args.text.now c.in-Text.a c.in-Text.len (inside (goal.at.can_hold_all-requires c).In-Text) in
     (omega (arith, size), omega (arith, p.5.long))
 
+pub returns-then-len-m : goal.returns-then-len-m
+unfolding fitting
+returns-then-len-m c =
+    let p = c.requires in
+    rw (← c.row_at.ensures.same, c.in-Text.is, eq-eqb _ _ c.if-len-m.true)
+    (c.can_hold_all.ensures ∙ part_fits _ _ _ p.5 p.0 _ _ _ _ p.3 (rw c.in-Text.is at c.row_at.ensures.sound) (omega arith))
+
 pub returns-else-len-m : goal.returns-else-len-m
 unfolding fitting
-returns-else-len-m c =
-    let p = c.requires in
-    rw (← c.row_at.ensures.same, c.in-Text.is, eq-eqb _ _ c.if-len-m.false)
-    (c.can_hold_all.ensures ∙ part_fits _ _ _ p.5 p.0 _ _ _ _ p.3 (rw c.in-Text.is at c.row_at.ensures.sound) (omega arith))
+returns-else-len-m c = rw (← c.row_at.ensures.same, c.in-Text.is, ne_eqb _ _ c.if-len-m.false)
 
 pub returns-in-Empty : goal.returns-in-Empty
 unfolding fitting
-returns-in-Empty c = rw (← c.row_at.ensures.same, c.in-Empty.is)
-
-pub returns-in-Range : goal.returns-in-Range
-unfolding fitting
-returns-in-Range c = rw (← c.row_at.ensures.same, c.in-Range.is)
-
-pub returns-in-Alt : goal.returns-in-Alt
-unfolding fitting
-returns-in-Alt c = rw (← c.row_at.ensures.same, c.in-Alt.is)
-
-pub returns-in-Seq : goal.returns-in-Seq
-unfolding fitting
-returns-in-Seq c = rw (← c.row_at.ensures.same, c.in-Seq.is)
-
-pub returns-in-Star : goal.returns-in-Star
-unfolding fitting
-returns-in-Star c = rw (← c.row_at.ensures.same, c.in-Star.is)
+returns-in-Empty c =
+    rw (← c.row_at.ensures.same)
+    (elim c.in-Empty.is [
+      inl e ↦ rw e
+    | inr (inl (a, b, e)) ↦ rw e
+    | inr (inr (inl (a, b, e))) ↦ rw e
+    | inr (inr (inr (inl (a, b, e)))) ↦ rw e
+    | inr (inr (inr (inr (a, e)))) ↦ rw e
+    ])

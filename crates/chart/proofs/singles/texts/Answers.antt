@@ -25,7 +25,7 @@ pub text_of-text-requires : goal.text_of-text-requires
 text_of-text-requires c = c.requires.0.lent.good
 
 pub loop-q-init : goal.loop-q-init
-loop-q-init c = (omega arith, adds_none _ _ _ (among_none _ _))
+loop-q-init c = adds_none _ _ _ (among_none _ _)
 
 pub text_fits-on-requires : goal.text_fits-on-requires
 text_fits-on-requires c =
@@ -35,19 +35,19 @@ text_fits-on-requires c =
 pub put-requires : goal.put-requires
 put-requires c =
     let p = c.requires in
-    (p.2, omega (arith, rows_few p.0.lent.good p.0.table), omega (arith, p.0.lent.room, c.loop-q.invariant.1.kept.long))
+    (p.2, omega (arith, rows_few p.0.lent.good p.0.table), omega (arith, p.0.lent.room, c.loop-q.invariant.kept.long))
 
 pub loop-q-preserved : goal.loop-q-preserved
 loop-q-preserved c =
     let l = c.loop-q in
-    (omega arith, among_turn _ _ _ l.q _ l.work _ l.invariant.1 _ c.text_fits-on.ensures c.put.ensures)
+    among_turn _ _ _ l.q _ l.work _ l.invariant _ c.text_fits-on.ensures c.put.ensures
 
 pub shape_of-work : goal.shape_of-work
-shape_of-work c = c.loop-q.invariant.1.kept.long
+shape_of-work c = c.loop-q.invariant.kept.long
 
 pub returns : goal.returns
 returns c =
     let a = c.args in
     let l = c.loop-q in
-    let all : Adds a.sp (among (grammar_of a.s.now) (fitting (text_of a.s.now) (allowed a.s.now a.places.now) a.m a.i) a.rows.count) a.work.now l.work = subst (λ (n : ℕ). Adds a.sp (among (grammar_of a.s.now) (fitting (text_of a.s.now) (allowed a.s.now a.places.now) a.m a.i) n) a.work.now l.work) (omega arith) l.invariant.1 in
+    let all : Adds a.sp (among (grammar_of a.s.now) (fitting (text_of a.s.now) (allowed a.s.now a.places.now) a.m a.i) a.rows.count) a.work.now l.work = subst (λ (n : ℕ). Adds a.sp (among (grammar_of a.s.now) (fitting (text_of a.s.now) (allowed a.s.now a.places.now) a.m a.i) n) a.work.now l.work) (omega arith) l.invariant in
     adds_same _ _ _ _ _ all (λ r h. texts_passed _ a.places.now _ (rows_all c.requires.0.table) _ _ _ r)
