@@ -3,94 +3,122 @@
 // A sheet's first fault, and the readers of an accepted sheet.
 ghost use Rattle.std.specs.Prelude.{◌≡◌, ◌&&◌, ◌+◌, ◌≤◌, ◌<◌, leb, length};
 ghost use Rattle.paper.specs.Bytes.{u8_at};
-ghost use Rattle.paper.specs.Refusals.{plain, content_refusal, table_refusal, refusal};
+ghost use Rattle.paper.specs.Refusals.{content_refusal, table_refusal, refusal};
 ghost use Rattle.paper.specs.Promises.{Checks};
 ghost use Rattle.paper.specs.Sheet.{text_of, sheet_of, letter};
 ghost use Rattle.sheet_trailer.specs.Placed.{Trailed, Laid};
 ghost use Rattle.sheet_trailer.specs.Tables.{TableOf};
-ghost use Rattle.sheet.specs.Told.{told, taken};
+ghost use Rattle.sheet.specs.Told.{worded, told, taken};
 ghost use Rattle.sheet.specs.Good.{Good};
 ghost use Rattle.sheet.specs.Readers.{RowRead, PartRead, AssertionRead};
 
 use sheet_contents::{Assertion, Part, Row};
 use sheet_trailer::Table;
 
-// A fault by the paper's number, with the table and the record at fault; all 0 where there is none.
-#[derive(Clone, Copy)]
-pub struct Fault {
-    pub number: u32,
-    pub table: u32,
-    pub record: u32,
+// As 16 counts the tables: the new bytes of the trailer stand behind the assertions.
+const ASSERTIONS: u32 = 4;
+
+const NEW_BYTES: u32 = 5;
+
+// Why a call refuses: a fault of the sheet, with the table and the record at fault, or of what else was given.
+#[derive(Clone, Copy, PartialEq, Eq, Debug)]
+pub enum Fault {
+    Short,
+    Long,
+    Mark,
+    Total,
+    Count(u32),
+    Lengths,
+    Offsets,
+    Record(u32, u32),
+    Term(u32),
+    Workspace,
+    Output,
+    Row,
+    Length,
+    List,
+    Rule,
+    Space,
 }
 
-// What a call that writes answers: 0 with the length written, or a fault.
-#[derive(Clone, Copy)]
-pub enum Made {
-    Written(usize),
-    Refused(Fault),
-}
+impl Fault {
+    // The paper's number.
+    pub fn number(self) -> u32
+        ensures { result ≡ (worded self).number }
+    {
+        match self {
+            Fault::Short => 10,
+            Fault::Long => 11,
+            Fault::Mark => 12,
+            Fault::Total => 13,
+            Fault::Count(_) => 14,
+            Fault::Lengths => 141,
+            Fault::Offsets => 15,
+            Fault::Record(_, _) => 16,
+            Fault::Term(_) => 17,
+            Fault::Workspace => 18,
+            Fault::Output => 19,
+            Fault::Row => 20,
+            Fault::Length => 21,
+            Fault::List => 22,
+            Fault::Rule => 40,
+            Fault::Space => 41,
+        }
+    }
 
-// A fault that names no record.
-pub fn by_number(number: u32) -> Fault
-    ensures { result ≡ told (plain number) }
-{
-    Fault {
-        number,
-        table: 0,
-        record: 0,
+    // The table at fault: 0 where the number names none.
+    pub fn table(self) -> u32
+        ensures { result ≡ (worded self).table }
+    {
+        match self {
+            Fault::Count(table) | Fault::Record(table, _) => table,
+            Fault::Term(_) => ASSERTIONS,
+            _ => 0,
+        }
+    }
+
+    // The record at fault: 0 where the number names none.
+    pub fn record(self) -> u32
+        ensures { result ≡ (worded self).«record» }
+    {
+        match self {
+            Fault::Record(_, record) | Fault::Term(record) => record,
+            _ => 0,
+        }
     }
 }
 
 // 16 and 17, of a sheet whose tables lie right.
-fn check_content(s: &[u8]) -> Fault
+fn check_content(s: &[u8]) -> Result<(), Fault>
     requires { Laid s.now }
     ensures { result ≡ told (content_refusal s.now) }
 {
     if !sheet_trailer::rules_ok(s) {
-        return Fault {
-            number: 16,
-            table: 5,
-            record: 0,
-        };
+        return Err(Fault::Record(NEW_BYTES, 0));
     }
-    let t = sheet_records::bad_table(s);
-    if t != 5 {
-        let i = sheet_records::bad_record(s, t);
-        return Fault {
-            number: 16,
-            table: t as u32,
-            record: i as u32,
-        };
+    if let Some(t) = sheet_records::bad_table(s) {
+        let i = sheet_records::bad_record(s, t).unwrap();
+        return Err(Fault::Record(t as u32, i as u32));
     }
-    let i = sheet_records::terms::bad_term(s);
-    if i != sheet_trailer::count_of(s, 4) {
-        return Fault {
-            number: 17,
-            table: 4,
-            record: i as u32,
-        };
+    if let Some(i) = sheet_records::terms::bad_term(s) {
+        return Err(Fault::Term(i as u32));
     }
-    by_number(0)
+    Ok(())
 }
 
 // 14 to 17, of a sheet with its mark and its total.
-fn check_tables(s: &[u8]) -> Fault
+fn check_tables(s: &[u8]) -> Result<(), Fault>
     requires { Trailed s.now }
     ensures { result ≡ told (table_refusal s.now) }
 {
-    let t = sheet_trailer::bad_count(s);
-    if t != 5 {
-        return Fault {
-            number: 14,
-            table: t as u32,
-            record: 0,
-        };
+    if let Some(t) = sheet_trailer::bad_count(s) {
+        return Err(Fault::Count(t as u32));
     }
     if !sheet_trailer::lengths_ok(s) {
-        return by_number(141);
+        return Err(Fault::Lengths);
     }
     if !sheet_trailer::offsets_ok(s) {
-        return by_number(15);
+        return Err(Fault::Offsets);
     }
     check_content(s)
 }
@@ -104,21 +132,21 @@ pub struct Takes {
 }
 
 // The first fault of any bytes, for a call that takes so much.
-pub fn first_fault(s: &[u8], takes: Takes) -> Fault
+pub fn first_fault(s: &[u8], takes: Takes) -> Result<(), Fault>
     requires { takes.last < 10 }
     ensures { result ≡ told (refusal (taken takes) s.now) }
 {
     if s.len() < 32 {
-        return by_number(10);
+        return Err(Fault::Short);
     }
     if s.len() > takes.bytes {
-        return by_number(11);
+        return Err(Fault::Long);
     }
     if !sheet_trailer::mark_ok(s, takes.first, takes.last) {
-        return by_number(12);
+        return Err(Fault::Mark);
     }
     if !sheet_trailer::total_ok(s) {
-        return by_number(13);
+        return Err(Fault::Total);
     }
     check_tables(s)
 }
@@ -127,7 +155,7 @@ pub fn first_fault(s: &[u8], takes: Takes) -> Fault
 pub const MOST: usize = 3380;
 
 // The first fault of any bytes.
-pub fn check(s: &[u8]) -> Fault
+pub fn check(s: &[u8]) -> Result<(), Fault>
     ensures { Checks told s.now result }
 {
     first_fault(

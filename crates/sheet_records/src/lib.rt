@@ -5,8 +5,9 @@ mod rules;
 pub mod terms;
 
 ghost use Rattle.std.specs.Prelude.{◌≡◌, ◌+◌, ◌*◌, ◌≤◌, ◌<◌, length};
-ghost use Rattle.paper.specs.Trailer.{size};
-ghost use Rattle.paper.specs.Records.{record_ok, bad_record, bad_table};
+ghost use Rattle.paper.specs.Trailer.{size, count_of, record_at};
+ghost use Rattle.paper.specs.Records.{record_ok, table_ok};
+ghost use Rattle.sheet_trailer.specs.FirstBad.{FirstBad};
 ghost use Rattle.sheet_trailer.specs.Placed.{Trailed, Laid};
 
 // The record of table t at o.
@@ -35,39 +36,29 @@ fn record_ok(s: &[u8], t: usize, o: usize) -> bool
     }
 }
 
-// The first bad record of table t, or its count.
-pub fn bad_record(s: &[u8], t: usize) -> usize
+// The first bad record of table t.
+pub fn bad_record(s: &[u8], t: usize) -> Option<usize>
     requires { Laid s.now × (t < 5) }
-    ensures { (result ≡ bad_record s.now t) × (result < 65536) }
+    ensures { FirstBad (λ i. record_ok s.now t (record_at s.now t i)) (count_of s.now t) result }
 {
     let x = sheet_trailer::table_of(s, t);
-    let step = sheet_trailer::SIZE[t];
-    let n = x.count;
-    let mut o = x.at;
-    let mut i: usize = 0;
-    while i < n {
-        if record_ok(s, t, o) {
-            o += step;
-            i += 1;
-        } else {
-            return i;
-        }
-    }
-    n
+    let at = x.at;
+    let size = sheet_trailer::SIZE[t];
+    (0..x.count).find(|i| !record_ok(s, t, at + size * *i))
 }
 
-// The first table with a bad record, or 5.
-pub fn bad_table(s: &[u8]) -> usize
-    requires { Laid s.now }
-    ensures { (result ≡ bad_table s.now) × (result ≤ 5) }
+// No record of table t is bad.
+fn table_ok(s: &[u8], t: usize) -> bool
+    requires { Laid s.now × (t < 5) }
+    ensures { result ≡ table_ok s.now t }
 {
-    let mut t: usize = 0;
-    while t < 5 {
-        if bad_record(s, t) == sheet_trailer::count_of(s, t) {
-            t += 1;
-        } else {
-            return t;
-        }
-    }
-    5
+    bad_record(s, t).is_none()
+}
+
+// The first table with a bad record.
+pub fn bad_table(s: &[u8]) -> Option<usize>
+    requires { Laid s.now }
+    ensures { FirstBad (table_ok s.now) 5 result }
+{
+    (0..5).find(|t| !table_ok(s, *t))
 }

@@ -1,7 +1,8 @@
 // The terms of the assertions at the longest length.
 ghost use Rattle.std.specs.Prelude.{◌≡◌, true, ◌+◌, ◌*◌, ◌≤◌, ◌<◌, length};
-ghost use Rattle.paper.specs.Trailer.{count_of};
-ghost use Rattle.paper.specs.Records.{record_ok, bad_table, part_len, term_len, term_fits, assert_fits, bad_term};
+ghost use Rattle.paper.specs.Trailer.{count_of, record_at};
+ghost use Rattle.paper.specs.Records.{record_ok, bad_table, part_len, term_len, term_fits, assert_fits};
+ghost use Rattle.sheet_trailer.specs.FirstBad.{FirstBad};
 ghost use Rattle.sheet_trailer.specs.Placed.{Trailed, Laid};
 ghost use Rattle.sheet_contents.specs.Read.{as_run};
 
@@ -57,21 +58,12 @@ fn assert_fits(s: &[u8], o: usize) -> bool
     term_fits(s, sheet_contents::second_run(claim))
 }
 
-// The first assertion with an overlong term, or their number.
-pub fn bad_term(s: &[u8]) -> usize
+// The first assertion with an overlong term.
+pub fn bad_term(s: &[u8]) -> Option<usize>
     requires { Laid s.now × (bad_table s.now ≡ 5) }
-    ensures { (result ≡ bad_term s.now) × (result < 65536) }
+    ensures { FirstBad (λ i. assert_fits s.now (record_at s.now 4 i)) (count_of s.now 4) result }
 {
     let x = sheet_trailer::table_of(s, 4);
-    let n = x.count;
     let at = x.at;
-    let mut i: usize = 0;
-    while i < n {
-        if assert_fits(s, at + 12 * i) {
-            i += 1;
-        } else {
-            return i;
-        }
-    }
-    n
+    (0..x.count).find(|i| !assert_fits(s, at + 12 * *i))
 }

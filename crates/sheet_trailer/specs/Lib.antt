@@ -1,2 +1,3 @@
+pub mod FirstBad
 pub mod Placed
 pub mod Tables

@@ -2,9 +2,9 @@
 
 // A sheet's trailer: its edition, its fields by name, its rules, and the faults 12 to 15.
 ghost use Rattle.std.specs.Prelude.{◌≡◌, ◌+◌, ◌≤◌, ◌<◌, length};
-ghost use Rattle.paper.specs.Tests.{first_bad};
 ghost use Rattle.paper.specs.Trailer.{edition, base, field, shortest, longest, count_of, new_byte, rules_of, mark_ok, total_ok, lengths_ok, rules_ok, count_ok, offsets_ok};
 ghost use Rattle.paper.specs.Rules as paper;
+ghost use Rattle.sheet_trailer.specs.FirstBad.{FirstBad};
 ghost use Rattle.sheet_trailer.specs.Placed.{Trailed};
 ghost use Rattle.sheet_trailer.specs.Tables.{TableOf};
 
@@ -169,20 +169,12 @@ fn count_ok(s: &[u8], t: usize) -> bool
     LEAST[t] <= n && n <= MOST[t]
 }
 
-// The first table whose count is outside its limits, or 5.
-pub fn bad_count(s: &[u8]) -> usize
+// The first table whose count is outside its limits.
+pub fn bad_count(s: &[u8]) -> Option<usize>
     requires { Trailed s.now }
-    ensures { (result ≡ first_bad (count_ok s.now) 5) × (result ≤ 5) }
+    ensures { FirstBad (count_ok s.now) 5 result }
 {
-    let mut t: usize = 0;
-    while t < 5 {
-        if count_ok(s, t) {
-            t += 1;
-        } else {
-            return t;
-        }
-    }
-    5
+    (0..5).find(|t| !count_ok(s, *t))
 }
 
 // The tables lie end to end from 0 up to the trailer.
@@ -190,15 +182,13 @@ pub fn offsets_ok(s: &[u8]) -> bool
     requires { Trailed s.now }
     ensures { result ≡ offsets_ok s.now }
 {
-    let mut t: usize = 0;
     let mut at: usize = 0;
-    while t < 5 {
+    for t in 0..5 {
         let x = table_of(s, t);
         if x.at != at {
             return false;
         }
         at += SIZE[t] * x.count;
-        t += 1;
     }
     at == base(s)
 }

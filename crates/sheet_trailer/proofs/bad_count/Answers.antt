@@ -1,16 +1,12 @@
-use mathlib.Core.Path.{sym, ◌∙◌}
-use Rattle.sheet_trailer.proofs.Search.{start, more, stop, done}
-use native.Mathlib.Omega.{arith}
+use mathlib.Core.Path.{◌≡◌}
+use mathlib.Core.Bool.{true, false}
+use Rattle.std.proofs.Common.{rules}
+use Rattle.std.proofs.lemmas.Iterator.{first_from_Range}
+use Rattle.paper.specs.Trailer.{count_ok}
+use Rattle.sheet_trailer.proofs.Search.{bad_found}
 use Rattle.sheet_trailer.proofs.bad_count.Goals as goal
 
-pub loop-t-init : goal.loop-t-init
-loop-t-init c = start _ _
-
-pub loop-t-preserved : goal.loop-t-preserved
-loop-t-preserved c = more _ _ _ c.loop-t.invariant (omega arith) (sym c.count_ok.ensures ∙ c.if-count_ok.true)
-
-pub returns-else-count_ok : goal.returns-else-count_ok
-returns-else-count_ok c = (stop _ _ _ c.loop-t.invariant (omega arith) (sym c.count_ok.ensures ∙ c.if-count_ok.false), omega arith)
-
 pub returns : goal.returns
-returns c = (done _ _ _ c.loop-t.invariant (omega arith), omega arith)
+returns c =
+    let ok = count_ok c.args.s.now in
+    bad_found ok 5 c.find.result (first_from_Range _ _ _ c.find.result (λ k. ok k ≡ false) (λ k. ok k ≡ true) c.find.ensures.ran (λ x q h. search rules) (λ x q h. search rules))
