@@ -1,54 +1,61 @@
 -- Laws of the remembered counts.
-use mathlib.Core.Path.{◌≡◌, refl, ◌∙◌}
-use Prim.Native.Nat.{ℕ, zero, suc, ◌+◌, ◌-◌, ◌*◌, ◌≤◌, ◌<◌}
+use mathlib.Core.Path.{◌≡◌, refl, sym, ap, ◌∙◌}
+use mathlib.Core.Logic.{◌≢◌, ◌⊎◌, inl, inr}
+use mathlib.Core.List.{List, [], ◌∷◌}
+use Prim.Native.Nat.{ℕ, zero, suc, ◌-◌, ◌<◌}
 use native.Mathlib.Omega.{arith}
-use native.Mathlib.Numerals.{add-one}
-use native.Mathlib.Decide.{dec_lt, ℕ_discrete}
-use mathlib.Core.List.{List}
+use native.Mathlib.Decide.{ℕ_discrete}
 use borrow.Author.Tests.{eq-eqb, ne_eqb}
-use lib.ListN.{length, get_or, set, length-set}
-use lib.Seq.{get_or-set_same, get_or-set_other}
-use Rattle.walk.specs.Counts.{seen_at, wiped}
+use lib.ListN.{get_or, set, replicate}
+use lib.Seq.{get_or-set_other}
+use Rattle.std.specs.Prelude.{Option, Some, None}
+use Rattle.std.proofs.lemmas.Option.{none-some, same_Some}
+use Rattle.walk.specs.Counts.{Counts, count_at, seen_at, noted_at, forgotten}
 
 -- a count that is seen is that of a slot
-pub seen_known : (m : List ℕ) (k s : ℕ) → 0 < seen_at m k s → (0 < s) × (seen_at m k s ≡ get_or m (8 * (k - 1) + s) 0)
+pub seen_known : (m : Counts) (k s x : ℕ) → seen_at m k s ≡ Some x → (0 < s) × (count_at m (k - 1) s ≡ Some x)
 unfolding seen_at
-seen_known m k s h = go (ℕ_discrete s 0)
+seen_known m k s x h = go (ℕ_discrete s 0)
   where
-    go : Dec (s ≡ 0) → (0 < s) × (seen_at m k s ≡ get_or m (8 * (k - 1) + s) 0)
-    go (yes e) =
-        let z : seen_at m k s ≡ 0 = rw (eq-eqb s 0 e) in
-        absurd (omega arith)
-    go (no e) = (omega arith, rw (ne_eqb s 0 e))
+    go : Dec (s ≡ 0) → (0 < s) × (count_at m (k - 1) s ≡ Some x)
+    go (yes e) = absurd (none-some x (rw (eq-eqb s 0 e) at h))
+    go (no e) = (omega arith, rw (ne_eqb s 0 e) at h)
+
+-- an entry after one was set: as it was, or the one that was set
+set_cases : {A : Type 0} (l : List A) (i : ℕ) (a : A) (j : ℕ) (d : A) → (get_or (set l i a) j d ≡ get_or l j d) ⊎ ((j ≡ i) × (get_or (set l i a) j d ≡ a))
+set_cases [] i a j d = inl refl
+set_cases (x ∷ l) zero a zero d = inr (refl, refl)
+set_cases (x ∷ l) zero a (suc j) d = inl refl
+set_cases (x ∷ l) (suc i) a zero d = inl refl
+set_cases (x ∷ l) (suc i) a (suc j) d = elim (set_cases l i a j d) [ inl e ↦ inl e | inr p ↦ inr (ap suc p.0, p.1) ]
+
+-- a count after one was noted: that one, or as it was
+pub noted_count : (m : Counts) (k s t j r x : ℕ) → count_at (noted_at m k s t) j r ≡ Some x → ((j ≡ k - 1) × (r ≡ s) × (t ≡ x)) ⊎ (count_at m j r ≡ Some x)
+noted_count m k s t j r x h = place (set_cases m (k - 1) row j [])
+  where
+    row : List (Option ℕ)
+    row = set (get_or m (k - 1) []) s (Some t)
+
+    slot : j ≡ k - 1 → get_or row r None ≡ Some x
+        → (get_or row r None ≡ get_or (get_or m (k - 1) []) r None) ⊎ ((r ≡ s) × (get_or row r None ≡ Some t)) → ((j ≡ k - 1) × (r ≡ s) × (t ≡ x)) ⊎ (count_at m j r ≡ Some x)
+    slot e g (inl same) = inr (rw e (sym same ∙ g))
+    slot e g (inr p) = inl (e, p.0, same_Some t x (sym p.1 ∙ g))
+
+    place : (get_or (set m (k - 1) row) j [] ≡ get_or m j []) ⊎ ((j ≡ k - 1) × (get_or (set m (k - 1) row) j [] ≡ row)) → ((j ≡ k - 1) × (r ≡ s) × (t ≡ x)) ⊎ (count_at m j r ≡ Some x)
+    place (inl same) = inr (rw same at h)
+    place (inr p) = slot p.0 (rw p.1 at h) (set_cases (get_or m (k - 1) []) s (Some t) r None)
 
 -- ---- a place's counts forgotten
-module _ (m : List ℕ) (at : ℕ) where
-  pub wiped_none : wiped m at 0 ≡ m
-  unfolding wiped
-  wiped_none = refl
 
-  pub wiped_more : (i : ℕ) → set (wiped m at i) (at + i) 0 ≡ wiped m at (i + 1)
-  unfolding wiped
-  wiped_more i = rw add-one
+all_none : (n r : ℕ) → ◌≡◌ {A = Option ℕ} (get_or (replicate n None) r None) None
+all_none zero r = refl
+all_none (suc n) zero = refl
+all_none (suc n) (suc r) = all_none n r
 
-  pub wiped_length : (i : ℕ) → length (wiped m at i) ≡ length m
-  unfolding wiped
-  wiped_length zero = refl
-  wiped_length (suc i) = simp length-set (wiped_length i)
+pub forgotten_here : (m : Counts) (k r : ℕ) → count_at (forgotten m k) k r ≡ None
+forgotten_here [] k r = refl
+forgotten_here (x ∷ m) zero r = all_none 8 r
+forgotten_here (x ∷ m) (suc k) r = forgotten_here m k r
 
-  pub wiped_low : (i j : ℕ) → j < at → get_or (wiped m at i) j 0 ≡ get_or m j 0
-  unfolding wiped
-  wiped_low zero j h = refl
-  wiped_low (suc i) j h = get_or-set_other (wiped m at i) (at + i) j 0 0 (omega arith) ∙ wiped_low i j h
-
-  pub wiped_row : (i s : ℕ) → s < i → at + i ≤ length m → get_or (wiped m at i) (at + s) 0 ≡ 0
-  unfolding wiped
-  wiped_row zero s h l = absurd (omega arith)
-  wiped_row (suc i) s h l = go (dec_lt s i) (λ y. wiped_row i s y (omega arith))
-    where
-      go : Dec (s < i) → (s < i → get_or (wiped m at i) (at + s) 0 ≡ 0) → get_or (set (wiped m at i) (at + i) 0) (at + s) 0 ≡ 0
-      go (yes y) ih = get_or-set_other (wiped m at i) (at + i) (at + s) 0 0 (omega arith) ∙ ih y
-      go (no y) ih =
-          let v : s ≡ i = omega arith in
-          let z = wiped_length i in
-          rw v (get_or-set_same (wiped m at i) (at + i) 0 0 (omega arith))
+pub forgotten_other : (m : Counts) (k j r : ℕ) → j ≢ k → count_at (forgotten m k) j r ≡ count_at m j r
+forgotten_other m k j r ne = ap (λ row. get_or row r None) (get_or-set_other m k j (replicate 8 None) [] ne)

@@ -12,6 +12,7 @@ use Rattle.paper.specs.Answers.{Found, None, Spent, whole, under}
 use Rattle.paper.proofs.Budget.{count_tree, under_above, under_within}
 use Rattle.walk_state.specs.declared.State.{State}
 use Rattle.paper.proofs.Budget.{count_plus, count_then}
+use Rattle.walk.specs.Counts.{Counts}
 use Rattle.walk.specs.Progress.{At, Done, Knows, Judging, Landed, Over}
 use Rattle.walk.proofs.Runs.{plus_zero, plus_plus, rising_end, rising_take, tree_word}
 use Rattle.walk.proofs.Steps.{whole_found, whole_count}
@@ -38,18 +39,18 @@ module _ (is : ℕ → Bool) (slot : List ℕ) (opens : ℕ → List ℕ → Boo
       length_of n a h e ∙ rw g (sym (plus_plus a (t - a) (lengths (suc n))) ∙ rw z)
 
   -- a length that is done
-  landed_none : (n a : ℕ) (q : State) (m : List ℕ) → n ≤ hi → q.prefix.len ≡ 0 → get_or q.begun 0 0 ≡ a → Length n a → Landed is slot opens n q m → Length (suc n) q.trials
+  landed_none : (n a : ℕ) (q : State) (m : Counts) → n ≤ hi → q.prefix.len ≡ 0 → get_or q.begun 0 0 ≡ a → Length n a → Landed is slot opens n q m → Length (suc n) q.trials
   landed_none n a q m h e y g d =
       let k : Done is opens n 0 q.prefix.bytes q.begun q.trials = rw e at d in
       let z : n - 0 ≡ n = omega arith in
       length_none n (get_or q.begun 0 0) q.trials h (rw y g) k.mark (rw z at k.gone)
 
-  pub next_length : (n a : ℕ) (q : State) (m : List ℕ) → n < hi → q.prefix.len ≡ 0 → get_or q.begun 0 0 ≡ a → Length n a → Landed is slot opens n q m → Length (n + 1) q.trials
+  pub next_length : (n a : ℕ) (q : State) (m : Counts) → n < hi → q.prefix.len ≡ 0 → get_or q.begun 0 0 ≡ a → Length n a → Landed is slot opens n q m → Length (n + 1) q.trials
   next_length n a q m h e y g d = rw add-one (landed_none n a q m (omega arith) e y g d)
 
   -- the empty prefix is about to be judged
-  pub at_root : (n : ℕ) (w s m : List ℕ) (t : ℕ) → get_or s 0 0 ≡ t → At is opens n 0 w s t × Knows is slot opens n 0 w m
-  at_root n w s m t e = (record { parts = λ j h. absurd (omega arith); mark = e }, record { each = λ j c h l p q. absurd (omega arith) })
+  pub at_root : (n : ℕ) (w s : List ℕ) (m : Counts) (t : ℕ) → get_or s 0 0 ≡ t → At is opens n 0 w s t × Knows is slot opens n 0 w m
+  at_root n w s m t e = (record { parts = λ j h. absurd (omega arith); mark = e }, record { each = λ j c x h l p q. absurd (omega arith) })
 
   -- ---- the ends
   pub end_over : (budget n a : ℕ) → n ≤ hi → Length n a → budget < a + count (tree is opens n n []) → under budget (walk is opens lo hi) ≡ Spent budget
@@ -59,7 +60,7 @@ module _ (is : ℕ → Bool) (slot : List ℕ) (opens : ℕ → List ℕ → Boo
       under_above budget (walk is opens lo hi) m
 
   -- a prefix about to be judged where the budget is used up
-  pub judging_over : (budget n : ℕ) (q : State) (m : List ℕ) → Judging is slot opens n q m → budget ≤ q.trials → Over is slot opens n budget q
+  pub judging_over : (budget n : ℕ) (q : State) (m : Counts) → Judging is slot opens n q m → budget ≤ q.trials → Over is slot opens n budget q
   judging_over budget n q m a h =
       let y = a.0.mark in
       let c = count_tree is opens n (n - q.prefix.len) (take q.prefix.len q.prefix.bytes) in
@@ -72,7 +73,7 @@ module _ (is : ℕ → Bool) (slot : List ℕ) (opens : ℕ → List ℕ → Boo
       under_within budget (walk is opens lo hi) (rw y m) ∙ ap whole y
 
   -- an open prefix of n bytes
-  pub end_found : (budget n : ℕ) (q : State) (m : List ℕ) → n ≤ hi → q.prefix.len ≡ n → q.trials < budget → Length n (get_or q.begun 0 0) → Judging is slot opens n q m
+  pub end_found : (budget n : ℕ) (q : State) (m : Counts) → n ≤ hi → q.prefix.len ≡ n → q.trials < budget → Length n (get_or q.begun 0 0) → Judging is slot opens n q m
       → opens n (take q.prefix.len q.prefix.bytes) ≡ true
       → under budget (walk is opens lo hi) ≡ Found (take q.prefix.len q.prefix.bytes) (q.trials + 1)
   end_found budget n q m h e l g a o =
@@ -84,7 +85,7 @@ module _ (is : ℕ → Bool) (slot : List ℕ) (opens : ℕ → List ℕ → Boo
       found_told n (get_or q.begun 0 0) (q.trials + 1) budget w h g f.0 (omega arith) f.1
 
   -- the longest length is done
-  pub end_none : (budget n a : ℕ) (q : State) (m : List ℕ) → n ≡ hi → q.prefix.len ≡ 0 → q.trials ≤ budget → get_or q.begun 0 0 ≡ a → Length n a → Landed is slot opens n q m
+  pub end_none : (budget n a : ℕ) (q : State) (m : Counts) → n ≡ hi → q.prefix.len ≡ 0 → q.trials ≤ budget → get_or q.begun 0 0 ≡ a → Length n a → Landed is slot opens n q m
       → under budget (walk is opens lo hi) ≡ None q.trials
   end_none budget n a q m h e l y g d =
       let f : Length (suc hi) q.trials = rw h at (landed_none n a q m (omega arith) e y g d) in

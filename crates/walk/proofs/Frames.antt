@@ -8,7 +8,7 @@ use mathlib.Core.List.{List}
 use lib.ListN.{length, get_or, set, length-set}
 use lib.Seq.{get_or-set_same, get_or-set_other}
 use Rattle.walk_state.specs.declared.State.{State}
-use Rattle.walk_state.specs.Moves.{down_of, next_of, back_of, counted_of, passed_of, again_of, Marks}
+use Rattle.walk_state.specs.Moves.{down_of, next_of, back_of, counted_of, again_of, Marks}
 use Rattle.walk.specs.Posts.{Frame}
 
 marks_set : (s : List ℕ) (k t j : ℕ) → k < length s → (j ≢ k → get_or s j 0 ≤ t) → get_or (set s k t) j 0 ≤ t
@@ -64,9 +64,6 @@ module _ (budget : ℕ) where
     frame_counted t h =
         let m = f.more in
         record { short = f.short; letters = f.letters; notes = f.notes; more = omega arith; most = h; root = f.root; marks = λ j i. omega (arith, f.marks j i) }
-
-    pub frame_passed : Frame budget p (passed_of q)
-    frame_passed = record { short = f.short; letters = f.letters; notes = f.notes; more = f.more; most = f.most; root = f.root; marks = f.marks }
 
     -- the next length has its root at the trials made
     pub frame_again : Frame budget (again_of q) (again_of q)

@@ -2,44 +2,41 @@
 use mathlib.Core.Path.{◌≡◌, refl}
 use Prim.Native.Nat.{ℕ, zero, suc, ◌+◌, ◌≤◌, ◌<◌}
 use native.Mathlib.Omega.{arith}
-use mathlib.Core.Bool.{Bool, true, false}
+use mathlib.Core.Bool.{Bool, true}
 use mathlib.Core.List.{List}
-use lib.ListN.{length, take, get_or, set}
+use lib.ListN.{take, get_or, set}
 use lib.Seq.{get_or-set_same}
 use Rattle.paper.specs.Walk.{walk}
 use Rattle.paper.specs.Answers.{Found, None, Spent, under}
 use Rattle.walk_state.specs.declared.State.{State}
 use Rattle.walk_state.specs.Moves.{start_state, again_of}
+use Rattle.walk.specs.Counts.{Counts}
 use Rattle.walk.specs.Progress.{Classes, Judging, Landed, Landing, At, Knows}
-use Rattle.walk.specs.Posts.{Frame, Advanced}
+use Rattle.walk.specs.Posts.{Frame, AdvancedTo, AdvancedOver}
 use Rattle.walk.proofs.Frames.{frame_start, frame_here, frame_again}
 use Rattle.walk.proofs.Ends.{Length, first_length, next_length, at_root, judging_over, end_found, end_none, end_over}
 
 module _ (is : ℕ → Bool) (slot : List ℕ) (opens : ℕ → List ℕ → Bool) (lo hi budget : ℕ) where
   -- the walk has come to q at length n, whose prefix is about to be judged; m are the remembered counts
-  pub record Seeking (n : ℕ) (q : State) (m : List ℕ) : Type 0 where
+  pub record Seeking (n : ℕ) (q : State) (m : Counts) : Type 0 where
     pub range : n ≤ hi
     pub top : hi ≤ 60
     pub within : q.prefix.len ≤ n
     pub frame : Frame budget q q
-    pub tallies : 480 ≤ length m
-    pub fine : q.over ≡ false
     pub sofar : Length is slot opens lo hi n (get_or q.begun 0 0)
     pub at : Judging is slot opens n q m
 
-  pub seek_start : (q : State) (m : List ℕ) → q ≡ start_state → lo ≤ hi → hi ≤ 60 → 480 ≤ length m → Seeking lo q m
-  seek_start q m e h t v = rw e record {
+  pub seek_start : (q : State) (m : Counts) → q ≡ start_state → lo ≤ hi → hi ≤ 60 → Seeking lo q m
+  seek_start q m e h t = rw e record {
     range = h;
     top = t;
     within = omega arith;
     frame = frame_start budget start_state (omega arith) refl refl (omega arith) (λ j i. let z : j ≡ 0 = omega arith in rw z (omega arith));
-    tallies = v;
-    fine = refl;
     sofar = first_length is slot opens lo hi;
     at = at_root is slot opens lo hi lo start_state.prefix.bytes start_state.begun m 0 refl;
   }
 
-  landed_judging : (n : ℕ) (q : State) (m : List ℕ) → (q.prefix.len ≡ 0 → ⊥) → Landed is slot opens n q m → Judging is slot opens n q m
+  landed_judging : (n : ℕ) (q : State) (m : Counts) → (q.prefix.len ≡ 0 → ⊥) → Landed is slot opens n q m → Judging is slot opens n q m
   landed_judging n q m = go q.prefix.len
     where
       go : (k : ℕ) → (k ≡ 0 → ⊥) → Landing is slot opens n k q.prefix.bytes q.begun m q.trials
@@ -47,7 +44,7 @@ module _ (is : ℕ → Bool) (slot : List ℕ) (opens : ℕ → List ℕ → Boo
       go zero h d = absurd (h refl)
       go (suc k) h d = d
 
-  module _ (n : ℕ) (q : State) (m : List ℕ) (s : Seeking n q m) where
+  module _ (n : ℕ) (q : State) (m : Counts) (s : Seeking n q m) where
     -- the prefix at hand is the word
     pub seek_found : q.trials < budget → q.prefix.len ≡ n → opens n (take q.prefix.len q.prefix.bytes) ≡ true
         → under budget (walk is opens lo hi) ≡ Found (take q.prefix.len q.prefix.bytes) (q.trials + 1)
@@ -57,48 +54,40 @@ module _ (is : ℕ → Bool) (slot : List ℕ) (opens : ℕ → List ℕ → Boo
     pub seek_spent : budget ≤ q.trials → under budget (walk is opens lo hi) ≡ Spent budget
     seek_spent h = end_over is slot opens lo hi budget n (get_or q.begun 0 0) s.range s.sofar (judging_over is slot opens lo hi budget n q m s.at h)
 
-    -- ---- the prefix at hand was judged, and the walk has come to r and the counts m'
-    module _ (classes : Classes opens slot) (ok : Bool) (r : State) (m' : List ℕ) (a : Advanced is slot budget n ok q m r m')
-        (o : opens n (take q.prefix.len q.prefix.bytes) ≡ ok) where
+    -- ---- the prefix at hand was judged
+    module _ (classes : Classes opens slot) (ok : Bool) (o : opens n (take q.prefix.len q.prefix.bytes) ≡ ok) where
       -- the budget does not suffice for what was counted on the way
-      pub seek_over : r.over ≡ true → under budget (walk is opens lo hi) ≡ Spent budget
-      seek_over x = end_over is slot opens lo hi budget n (get_or q.begun 0 0) s.range s.sofar (a.past opens classes s.at o x)
+      pub seek_over : AdvancedOver is slot budget n ok q m → under budget (walk is opens lo hi) ≡ Spent budget
+      seek_over a = end_over is slot opens lo hi budget n (get_or q.begun 0 0) s.range s.sofar (a opens classes s.at o)
 
-      -- the last length is done
-      pub seek_none : r.over ≡ false → r.prefix.len ≡ 0 → n ≡ hi → under budget (walk is opens lo hi) ≡ None r.trials
-      seek_none x e f = end_none is slot opens lo hi budget n (get_or q.begun 0 0) r m' f e a.frame.most a.frame.root s.sofar (a.to opens classes s.at o x)
+      -- the walk has come to r and the counts m'
+      module _ (r : State) (m' : Counts) (a : AdvancedTo is slot budget n ok q m r m') where
+        -- the last length is done
+        pub seek_none : r.prefix.len ≡ 0 → n ≡ hi → under budget (walk is opens lo hi) ≡ None r.trials
+        seek_none e f = end_none is slot opens lo hi budget n (get_or q.begun 0 0) r m' f e a.frame.most a.frame.root s.sofar (a.to opens classes s.at o)
 
-      -- the next prefix
-      pub seek_next : r.over ≡ false → (r.prefix.len ≡ 0 → ⊥) → Seeking n r m'
-      seek_next x e =
-          let y = a.tallies in
-          let z = s.tallies in
-          record {
-            range = s.range;
-            top = s.top;
-            within = a.within;
-            frame = frame_here budget q r a.frame;
-            tallies = omega arith;
-            fine = x;
-            sofar = rw a.frame.root s.sofar;
-            at = landed_judging n r m' e (a.to opens classes s.at o x);
-          }
+        -- the next prefix
+        pub seek_next : (r.prefix.len ≡ 0 → ⊥) → Seeking n r m'
+        seek_next e = record {
+          range = s.range;
+          top = s.top;
+          within = a.within;
+          frame = frame_here budget q r a.frame;
+          sofar = rw a.frame.root s.sofar;
+          at = landed_judging n r m' e (a.to opens classes s.at o);
+        }
 
-      -- the next length
-      pub seek_length : r.over ≡ false → r.prefix.len ≡ 0 → (n ≡ hi → ⊥) → Seeking (n + 1) (again_of r) m'
-      seek_length x e f =
-          let l = a.frame.notes in
-          let y = a.tallies in
-          let z = s.tallies in
-          let k = s.range in
-          let g : get_or (set r.begun 0 r.trials) 0 0 ≡ r.trials = get_or-set_same r.begun 0 r.trials 0 (omega arith) in
-          record {
-            range = omega arith;
-            top = s.top;
-            within = omega arith;
-            frame = frame_again budget q r a.frame;
-            tallies = omega arith;
-            fine = x;
-            sofar = rw g (next_length is slot opens lo hi n (get_or q.begun 0 0) r m' (omega arith) e a.frame.root s.sofar (a.to opens classes s.at o x));
-            at = rw e (at_root is slot opens lo hi (n + 1) r.prefix.bytes (set r.begun 0 r.trials) m' r.trials g);
-          }
+        -- the next length
+        pub seek_length : r.prefix.len ≡ 0 → (n ≡ hi → ⊥) → Seeking (n + 1) (again_of r) m'
+        seek_length e f =
+            let l = a.frame.notes in
+            let k = s.range in
+            let g : get_or (set r.begun 0 r.trials) 0 0 ≡ r.trials = get_or-set_same r.begun 0 r.trials 0 (omega arith) in
+            record {
+              range = omega arith;
+              top = s.top;
+              within = omega arith;
+              frame = frame_again budget q r a.frame;
+              sofar = rw g (next_length is slot opens lo hi n (get_or q.begun 0 0) r m' (omega arith) e a.frame.root s.sofar (a.to opens classes s.at o));
+              at = rw e (at_root is slot opens lo hi (n + 1) r.prefix.bytes (set r.begun 0 r.trials) m' r.trials g);
+            }

@@ -8,6 +8,7 @@ use mathlib.Core.Bool.{Bool, true, false}
 use mathlib.Core.List.{List, [], ◌∷◌, ◌++◌}
 use lib.ListN.{length, take, get_or, set}
 use lib.Seq.{take-suc-set, take-set-le, get_or-set_other, get_or-set_same}
+use Rattle.std.specs.Prelude.{Some, None}
 use Rattle.paper.specs.Walk.{Walked, found, none, plus, then, count, tree}
 use Rattle.walk_state.specs.Letters.{FirstFrom}
 use Rattle.paper.proofs.Budget.{count_plus, count_then}
@@ -39,21 +40,21 @@ module _ (is : ℕ → Bool) (opens : ℕ → List ℕ → Bool) where
           rw z q
 
   -- the children from c on, b the first of them
-  kids_first : (n k : ℕ) (w : List ℕ) (c b : ℕ) → k < length w → FirstFrom is c b → b < 256
+  kids_first : (n k : ℕ) (w : List ℕ) (c b : ℕ) → k < length w → FirstFrom is c (Some b)
       → kids is opens n k w c ≡ then (tree is opens n (n - suc k) (take (suc k) (set w k b))) (kids is opens n k w (suc (get_or (set w k b) k 0)))
-  kids_first n k w c b h f m =
-      rw (rising_from is _ 256 c b f.low (omega arith) f.gap, rising_take is _ 256 b m (f.hit m))
+  kids_first n k w c b h f =
+      rw (rising_from is _ 256 c b f.1.low f.1.high f.1.gap, rising_take is _ 256 b f.0 (f.1.hit f.0))
       (rw (take-suc-set w k b h, get_or-set_same w k b 0 h))
 
   -- to the first child from c on, where so much of the prefix of k bytes is done
-  child : (n k : ℕ) (w s : List ℕ) (c b t : ℕ) → k < length w → suc k < length s → FirstFrom is c b → b < 256 → Parts is opens n k w s → get_or s k 0 ≤ t
+  child : (n k : ℕ) (w s : List ℕ) (c b t : ℕ) → k < length w → suc k < length s → FirstFrom is c (Some b) → Parts is opens n k w s → get_or s k 0 ≤ t
       → tree is opens n (n - k) (take k w) ≡ plus (t - get_or s k 0) (kids is opens n k w c)
       → At is opens n (suc k) (set w k b) (set s (suc k) t) t
-  child n k w s c b t h l f m p o e =
+  child n k w s c b t h l f p o e =
       record {
         parts = parts_more n k (set w k b) (set s (suc k) t) (parts_set n k w s b t p)
             (rw (get_or-set_other s (suc k) k t 0 (omega arith), get_or-set_same s (suc k) t 0 l)
-            (record { order = o; left = rw (take-set-le k w k b (omega arith)) (e ∙ ap (plus (t - get_or s k 0)) (kids_first n k w c b h f m)) }));
+            (record { order = o; left = rw (take-set-le k w k b (omega arith)) (e ∙ ap (plus (t - get_or s k 0)) (kids_first n k w c b h f)) }));
         mark = get_or-set_same s (suc k) t 0 l;
       }
 
@@ -80,42 +81,42 @@ module _ (is : ℕ → Bool) (opens : ℕ → List ℕ → Bool) where
   shut_step n k w s t a e = ends n k w s t 1 a (tree_shut is opens n (n - k) (take k w) e)
 
   -- open: one letter longer
-  pub down_step : (n k : ℕ) (w s : List ℕ) (t b : ℕ) → At is opens n k w s t → k < n → k < length w → suc k < length s → opens n (take k w) ≡ true → FirstFrom is 0 b → b < 256
+  pub down_step : (n k : ℕ) (w s : List ℕ) (t b : ℕ) → At is opens n k w s t → k < n → k < length w → suc k < length s → opens n (take k w) ≡ true → FirstFrom is 0 (Some b)
       → At is opens n (suc k) (set w k b) (set s (suc k) (t + 1)) (t + 1)
-  down_step n k w s t b a h l m e f g =
+  down_step n k w s t b a h l m e f =
       let q = a.mark in
       let z : t + 1 - get_or s k 0 ≡ 1 = omega arith in
-      child n k w s 0 b (t + 1) l m f g a.parts (omega arith) (rw z (tree_open is opens n k (take k w) h e))
+      child n k w s 0 b (t + 1) l m f a.parts (omega arith) (rw z (tree_open is opens n k (take k w) h e))
 
   -- open, and there are no letters
-  pub stuck_step : (n k : ℕ) (w s : List ℕ) (t b : ℕ) → At is opens n k w s t → k < n → opens n (take k w) ≡ true → FirstFrom is 0 b → 256 ≤ b → Done is opens n k w s (t + 1)
-  stuck_step n k w s t b a h e f m =
-      ends n k w s t 1 a (tree_open is opens n k (take k w) h e ∙ ap (plus 1) (rising_from is _ 256 0 256 (omega arith) (omega arith) (λ x l g. f.gap x (omega arith) g) ∙ rising_end is _ 256 256 (omega arith)))
+  pub stuck_step : (n k : ℕ) (w s : List ℕ) (t : ℕ) → At is opens n k w s t → k < n → opens n (take k w) ≡ true → FirstFrom is 0 None → Done is opens n k w s (t + 1)
+  stuck_step n k w s t a h e f =
+      ends n k w s t 1 a (tree_open is opens n k (take k w) h e ∙ ap (plus 1) (rising_from is _ 256 0 256 f.low f.high f.gap ∙ rising_end is _ 256 256 (omega arith)))
 
   -- a child is done: the next
-  pub next_step : (n k : ℕ) (w s : List ℕ) (t b : ℕ) → Done is opens n (suc k) w s t → k < length w → suc k < length s → FirstFrom is (suc (get_or w k 0)) b → b < 256
+  pub next_step : (n k : ℕ) (w s : List ℕ) (t b : ℕ) → Done is opens n (suc k) w s t → k < length w → suc k < length s → FirstFrom is (suc (get_or w k 0)) (Some b)
       → At is opens n (suc k) (set w k b) (set s (suc k) t) t
-  next_step n k w s t b d h l f m =
+  next_step n k w s t b d h l f =
       let q = (d.parts k (omega arith)).order in
       let r = d.mark in
-      child n k w s (suc (get_or w k 0)) b t h l f m (before n k w s d.parts) (omega arith) (behind n k w s t d)
+      child n k w s (suc (get_or w k 0)) b t h l f (before n k w s d.parts) (omega arith) (behind n k w s t d)
 
   -- a child is done, and the next is known to come to none
-  pub skip_step : (n k : ℕ) (w s : List ℕ) (t b x : ℕ) → Done is opens n (suc k) w s t → k < length w → suc k < length s → FirstFrom is (suc (get_or w k 0)) b → b < 256
+  pub skip_step : (n k : ℕ) (w s : List ℕ) (t b x : ℕ) → Done is opens n (suc k) w s t → k < length w → suc k < length s → FirstFrom is (suc (get_or w k 0)) (Some b)
       → tree is opens n (n - suc k) (take k w ++ (b ∷ [])) ≡ none x
       → Done is opens n (suc k) (set w k b) (set s (suc k) t) (t + x)
-  skip_step n k w s t b x d h l f m a = ends n (suc k) (set w k b) (set s (suc k) t) t x (next_step n k w s t b d h l f m) (rw (take-suc-set w k b h) a)
+  skip_step n k w s t b x d h l f a = ends n (suc k) (set w k b) (set s (suc k) t) t x (next_step n k w s t b d h l f) (rw (take-suc-set w k b h) a)
 
   -- a child is done, and there is no next: so is the parent
-  pub back_step : (n k : ℕ) (w s : List ℕ) (t b : ℕ) → Done is opens n (suc k) w s t → FirstFrom is (suc (get_or w k 0)) b → 256 ≤ b → get_or w k 0 < 256 → Done is opens n k w s t
-  back_step n k w s t b d f m y =
+  pub back_step : (n k : ℕ) (w s : List ℕ) (t : ℕ) → Done is opens n (suc k) w s t → FirstFrom is (suc (get_or w k 0)) None → Done is opens n k w s t
+  back_step n k w s t d f =
       let q = (d.parts k (omega arith)).order in
       let r = d.mark in
       record {
         parts = before n k w s d.parts;
         mark = omega arith;
         gone = behind n k w s t d
-            ∙ rw (rising_from is _ 256 (suc (get_or w k 0)) 256 y (omega arith) (λ x l g. f.gap x (omega arith) g), rising_end is _ 256 256 (omega arith), add-zero);
+            ∙ rw (rising_from is _ 256 (suc (get_or w k 0)) 256 f.low f.high f.gap, rising_end is _ 256 256 (omega arith), add-zero);
       }
 
   -- ---- what the parts say of the whole length

@@ -1,7 +1,8 @@
 -- How far the walk has come, read from the prefix at hand and the trials at which each of its prefixes was begun.
-use Rattle.std.specs.Prelude.{◌≡◌, ℕ, zero, suc, ◌+◌, ◌-◌, ◌*◌, ◌≤◌, ◌<◌, Bool, List, [], ◌∷◌, ◌++◌, take, get_or}
+use Rattle.std.specs.Prelude.{◌≡◌, ℕ, zero, suc, ◌+◌, ◌-◌, ◌≤◌, ◌<◌, Bool, List, [], ◌∷◌, ◌++◌, take, get_or, Some}
 use Rattle.paper.specs.Walk.{Walked, none, plus, then, count, rising, tree}
 use Rattle.walk_state.specs.declared.State.{State}
+use Rattle.walk.specs.Counts.{Counts, count_at}
 
 -- bytes that no judgement tells apart: wherever the one stands in a prefix, the other is as good
 abbrev pub Alike : (ℕ → List ℕ → Bool) → ℕ → ℕ → Type 0
@@ -37,24 +38,23 @@ module _ (is : ℕ → Bool) (opens : ℕ → List ℕ → Bool) where
 
 module _ (is : ℕ → Bool) (slot : List ℕ) (opens : ℕ → List ℕ → Bool) where
   -- each count that is remembered at a place of the prefix is that of every letter of its slot there
-  pub record Knows (n k : ℕ) (w m : List ℕ) : Type 0 where
-    pub each : (j c : ℕ) → j < k → c < 256 → 0 < get_or slot c 0 → 0 < get_or m (8 * j + get_or slot c 0) 0
-        → tree is opens n (n - suc j) (take j w ++ (c ∷ [])) ≡ none (get_or m (8 * j + get_or slot c 0) 0)
+  pub record Knows (n k : ℕ) (w : List ℕ) (m : Counts) : Type 0 where
+    pub each : (j c x : ℕ) → j < k → c < 256 → 0 < get_or slot c 0 → count_at m j (get_or slot c 0) ≡ Some x → tree is opens n (n - suc j) (take j w ++ (c ∷ [])) ≡ none x
 
   -- the prefix at hand is about to be judged
-  abbrev pub Judging : ℕ → State → List ℕ → Type 0
+  abbrev pub Judging : ℕ → State → Counts → Type 0
   Judging n q m = At is opens n q.prefix.len q.prefix.bytes q.begun q.trials × Knows n q.prefix.len q.prefix.bytes m
 
   -- it and its extensions are done
-  abbrev pub Finished : ℕ → State → List ℕ → Type 0
+  abbrev pub Finished : ℕ → State → Counts → Type 0
   Finished n q m = Done is opens n q.prefix.len q.prefix.bytes q.begun q.trials × Knows n q.prefix.len q.prefix.bytes m
 
-  abbrev pub Landing : (n k : ℕ) (w s m : List ℕ) (t : ℕ) → Type 0
+  abbrev pub Landing : (n k : ℕ) (w s : List ℕ) (m : Counts) (t : ℕ) → Type 0
   Landing n zero w s m t = Done is opens n zero w s t
   Landing n (suc k) w s m t = At is opens n (suc k) w s t × Knows n (suc k) w m
 
   -- the prefix at hand is about to be judged, or, where it is the empty one, this length is done
-  abbrev pub Landed : ℕ → State → List ℕ → Type 0
+  abbrev pub Landed : ℕ → State → Counts → Type 0
   Landed n q m = Landing n q.prefix.len q.prefix.bytes q.begun m q.trials
 
   -- the walk of this length alone counts above the budget

@@ -1,5 +1,5 @@
 -- The moves of a prefix, and of the walk's state that holds it.
-use Rattle.std.specs.Prelude.{ℕ, ◌+◌, ◌-◌, ◌≤◌, true, false, set, get_or, replicate}
+use Rattle.std.specs.Prelude.{ℕ, ◌+◌, ◌-◌, ◌≤◌, set, get_or, replicate}
 use Rattle.walk_state.specs.declared.Prefix.{Prefix}
 use Rattle.walk_state.specs.declared.State.{State}
 
@@ -25,31 +25,27 @@ last_of p = get_or p.bytes (p.len - 1) 0
 
 -- before the first trial
 abbrev pub start_state : State
-start_state = record { prefix = empty_prefix; begun = replicate 61 0; trials = 0; over = false }
+start_state = record { prefix = empty_prefix; begun = replicate 61 0; trials = 0 }
 
 -- one letter longer, begun now
 abbrev pub down_of : State → ℕ → State
-down_of q b = record { prefix = longer q.prefix b; begun = set q.begun (q.prefix.len + 1) q.trials; trials = q.trials; over = q.over }
+down_of q b = record { prefix = longer q.prefix b; begun = set q.begun (q.prefix.len + 1) q.trials; trials = q.trials }
 
 -- another letter in the last place, begun now
 abbrev pub next_of : State → ℕ → State
-next_of q b = record { prefix = ending q.prefix b; begun = set q.begun q.prefix.len q.trials; trials = q.trials; over = q.over }
+next_of q b = record { prefix = ending q.prefix b; begun = set q.begun q.prefix.len q.trials; trials = q.trials }
 
 -- one letter shorter
 abbrev pub back_of : State → State
-back_of q = record { prefix = shorter q.prefix; begun = q.begun; trials = q.trials; over = q.over }
+back_of q = record { prefix = shorter q.prefix; begun = q.begun; trials = q.trials }
 
 -- so many trials more
 abbrev pub counted_of : State → ℕ → State
-counted_of q t = record { prefix = q.prefix; begun = q.begun; trials = q.trials + t; over = q.over }
-
--- the budget does not suffice
-abbrev pub passed_of : State → State
-passed_of q = record { prefix = q.prefix; begun = q.begun; trials = q.trials; over = true }
+counted_of q t = record { prefix = q.prefix; begun = q.begun; trials = q.trials + t }
 
 -- the empty prefix, begun now
 abbrev pub again_of : State → State
-again_of q = record { prefix = q.prefix; begun = set q.begun 0 q.trials; trials = q.trials; over = q.over }
+again_of q = record { prefix = q.prefix; begun = set q.begun 0 q.trials; trials = q.trials }
 
 -- the trials since the prefix at hand was begun
 abbrev pub since_of : State → ℕ

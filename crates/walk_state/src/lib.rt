@@ -3,7 +3,7 @@
 // The walk's state: its letters, its prefix by value, and its moves, each handing the state back.
 ghost use Rattle.std.specs.Prelude.{◌≡◌, ◌+◌, ◌<◌, ◌≤◌};
 ghost use Rattle.walk_state.specs.Letters.{has_letter, NoLetter, Joined, FirstFrom};
-ghost use Rattle.walk_state.specs.Moves.{empty_prefix, start_state, longer, ending, shorter, down_of, next_of, back_of, counted_of, passed_of, again_of, last_of, since_of, Marks};
+ghost use Rattle.walk_state.specs.Moves.{empty_prefix, start_state, longer, ending, shorter, down_of, next_of, back_of, counted_of, again_of, last_of, since_of, Marks};
 
 // The letters, a bit for each possible one, in four words.
 #[derive(Clone, Copy)]
@@ -15,28 +15,23 @@ impl Letters {
     pub fn none() -> Self
         ensures { NoLetter result.of }
     {
-        Letters { of: [0u64; 4] }
+        Letters { of: [0; 4] }
     }
 
     // The letters from low to high besides.
-    pub fn with(self, low: u8, high: u8) -> Self
+    pub fn with(mut self, low: u8, high: u8) -> Self
         ensures { Joined self.of low high result.of }
     {
-        let mut of = self.of;
-        let end = numbers::wide(high);
-        let mut b = numbers::wide(low);
-        while b <= end {
-            workspace::set(&mut of, 0, b);
-            b += 1;
+        for b in low..=high {
+            workspace::set(&mut self.of, 0, usize::from(b));
         }
-        Letters { of }
+        self
     }
 
     pub fn has(self, b: u8) -> bool
         ensures { result ≡ has_letter self.of b }
     {
-        let of = self.of;
-        workspace::test(&of, 0, numbers::wide(b))
+        workspace::test(&self.of, 0, usize::from(b))
     }
 
     // The first letter at or after c.
@@ -44,8 +39,7 @@ impl Letters {
         requires { c ≤ 256 }
         ensures { FirstFrom (has_letter self.of) c result }
     {
-        let of = self.of;
-        let b = workspace::next(&of, 0, 0, c, 256)?;
+        let b = workspace::next(&self.of, 0, 0, c, 256)?;
         Some(b as u8)
     }
 }
@@ -61,7 +55,7 @@ impl Prefix {
         ensures { result ≡ empty_prefix }
     {
         Prefix {
-            bytes: [0u8; 60],
+            bytes: [0; 60],
             len: 0,
         }
     }
@@ -71,9 +65,8 @@ impl Prefix {
         requires { self.len < 60 }
         ensures { result ≡ longer self b }
     {
-        let at = self.len;
-        self.bytes[at] = b;
-        self.len = at + 1;
+        self.bytes[self.len] = b;
+        self.len += 1;
         self
     }
 
@@ -82,8 +75,7 @@ impl Prefix {
         requires { (0 < self.len) × (self.len ≤ 60) }
         ensures { result ≡ ending self b }
     {
-        let at = self.len - 1;
-        self.bytes[at] = b;
+        self.bytes[self.len - 1] = b;
         self
     }
 
@@ -92,17 +84,16 @@ impl Prefix {
         requires { 0 < self.len }
         ensures { result ≡ shorter self }
     {
-        self.len = self.len - 1;
+        self.len -= 1;
         self
     }
 
     // The last letter.
-    pub fn last(self) -> usize
+    pub fn last(self) -> u8
         requires { (0 < self.len) × (self.len ≤ 60) }
-        ensures { (result ≡ last_of self) × (result < 256) }
+        ensures { result ≡ last_of self }
     {
-        let at = self.len - 1;
-        numbers::wide(self.bytes[at])
+        self.bytes[self.len - 1]
     }
 }
 
@@ -112,20 +103,16 @@ pub struct State {
     // The trials at which the present letter of each place was begun; at 0, those at which this length was.
     pub begun: [u64; 61],
     pub trials: u64,
-    // The budget was found not to suffice.
-    pub over: bool,
 }
 
 impl State {
     pub fn start() -> Self
         ensures { result ≡ start_state }
     {
-        let prefix = Prefix::empty();
         State {
-            prefix,
-            begun: [0u64; 61],
+            prefix: Prefix::empty(),
+            begun: [0; 61],
             trials: 0,
-            over: false,
         }
     }
 
@@ -134,12 +121,8 @@ impl State {
         requires { self.prefix.len < 60 }
         ensures { result ≡ down_of self b }
     {
-        let p = self.prefix;
-        let at = p.len + 1;
-        let t = self.trials;
-        let r = p.down(b);
-        self.prefix = r;
-        self.begun[at] = t;
+        self.prefix = self.prefix.down(b);
+        self.begun[self.prefix.len] = self.trials;
         self
     }
 
@@ -148,12 +131,8 @@ impl State {
         requires { (0 < self.prefix.len) × (self.prefix.len ≤ 60) }
         ensures { result ≡ next_of self b }
     {
-        let p = self.prefix;
-        let at = p.len;
-        let t = self.trials;
-        let r = p.next(b);
-        self.prefix = r;
-        self.begun[at] = t;
+        self.prefix = self.prefix.next(b);
+        self.begun[self.prefix.len] = self.trials;
         self
     }
 
@@ -162,8 +141,7 @@ impl State {
         requires { 0 < self.prefix.len }
         ensures { result ≡ back_of self }
     {
-        let r = self.prefix.back();
-        self.prefix = r;
+        self.prefix = self.prefix.back();
         self
     }
 
@@ -172,15 +150,7 @@ impl State {
         requires { self.trials + t < 18446744073709551616 }
         ensures { result ≡ counted_of self t }
     {
-        self.trials = self.trials + t;
-        self
-    }
-
-    // The budget does not suffice.
-    pub fn passed(mut self) -> Self
-        ensures { result ≡ passed_of self }
-    {
-        self.over = true;
+        self.trials += t;
         self
     }
 
@@ -188,15 +158,14 @@ impl State {
     pub fn again(mut self) -> Self
         ensures { result ≡ again_of self }
     {
-        let t = self.trials;
-        self.begun[0] = t;
+        self.begun[0] = self.trials;
         self
     }
 
     // The last letter.
-    pub fn last(self) -> usize
+    pub fn last(self) -> u8
         requires { (0 < self.prefix.len) × (self.prefix.len ≤ 60) }
-        ensures { (result ≡ last_of self.prefix) × (result < 256) }
+        ensures { result ≡ last_of self.prefix }
     {
         self.prefix.last()
     }
@@ -206,7 +175,6 @@ impl State {
         requires { (self.prefix.len ≤ 60) × Marks self }
         ensures { result ≡ since_of self }
     {
-        let at = self.prefix.len;
-        self.trials - self.begun[at]
+        self.trials - self.begun[self.prefix.len]
     }
 }
