@@ -19,7 +19,7 @@ unfolding trailer_of
 returns c =
     let l = c.args.list.now in
     let k = known (goal.at.returns c).Start in
-    let z = u32_small l (length l - 8) (λ i. omega (arith, c.shared_slice_known-1.given i)) in
+    let z = u32_small l (length l - 8) (λ i. omega (arith, c.type_inv.list i)) in
     record {
       length_is = search rules;
       rows_are = c.u16_at-rows.ensures.0;
