@@ -1,19 +1,20 @@
 -- A byte and a stretch of the text in a word, and when each kind of option holds of it.
 -- Assumes nothing.
 use Prim.Native.Nat.{ℕ, suc, ◌+◌, ◌-◌, ◌≤◌, ◌<◌}
-use mathlib.Core.Path.{◌≡◌, refl}
-use mathlib.Core.Bool.{true, false, ◌&&◌}
-use mathlib.Core.List.{List}
-use mathlib.Core.Logic.{◌⊎◌, inl, inr}
+use mathlib.Core.Path.{◌≡◌, refl, sym, ap}
+use mathlib.Core.Bool.{true, ◌&&◌}
+use mathlib.Core.List.{List, [], ◌∷◌}
 use native.Mathlib.Omega.{arith}
 use lib.Dec.{eqb, leb}
-use lib.ListN.{length, get_or, take, drop}
+use lib.ListN.{length, get_or, take, drop, length-take, length-drop}
+use Rattle.std.specs.List.{starts_with}
+use Rattle.std.proofs.Common.{drop-cons}
 use borrow.Author.Tests.{eq-eqb, eqb-true, le-leb, leb-true}
 use Rattle.paper.specs.Decide.{Test, exactly, fits, some_in}
 use Rattle.paper.specs.Cuts.{Byte, Stretch, Split, Nil}
 use Rattle.paper.specs.Gate.{holds}
-use Rattle.paper.proofs.Tests.{and_left, and_right, and_intro, same_test, true_or_false, any_intro, any_elim}
-use Rattle.paper.proofs.Derivation.{fits_at, at_fits, stretch_part}
+use Rattle.paper.proofs.Tests.{and_left, and_right, and_intro, same_test, any_intro, any_elim}
+use Rattle.paper.proofs.Derivation.{stretch_part}
 
 -- ---- a byte, and a stretch of the text, in a word
 
@@ -35,17 +36,13 @@ module _ (word : List ℕ) (i : ℕ) where
           let q = leb-true (get_or word i 0) hi (and_right (leb lo (get_or word i 0)) _ e) in
           any_intro (suc hi - lo) (λ k. eqb (lo + k) (get_or word i 0)) (get_or word i 0 - lo) (omega arith) (eq-eqb (lo + (get_or word i 0 - lo)) (get_or word i 0) (omega arith))
 
-  pub stands_yes : (part : List ℕ) → ((j : ℕ) → j < length part → get_or part j 0 ≡ get_or word (i + j) 0) → fits (exactly word) i part ≡ true
-  unfolding exactly
-  stands_yes part h = at_fits (exactly word) i part (λ j l. eq-eqb _ _ (h j l))
-
-  pub stands_no : (part : List ℕ) (j : ℕ) → j < length part → (get_or part j 0 ≡ get_or word (i + j) 0 → ⊥) → fits (exactly word) i part ≡ false
-  unfolding exactly
-  stands_no part j l ne = go (true_or_false (fits (exactly word) i part))
-    where
-      go : (fits (exactly word) i part ≡ true) ⊎ (fits (exactly word) i part ≡ false) → fits (exactly word) i part ≡ false
-      go (inl e) = absurd (ne (eqb-true _ _ (fits_at (exactly word) i part e j l)))
-      go (inr e) = e
+-- the part stands in the word from place i on
+pub starts_fits : (word part : List ℕ) (i : ℕ) → i + length part ≤ length word → starts_with eqb (drop i word) part ≡ fits (exactly word) i part
+unfolding fits exactly
+starts_fits word [] i h = refl
+starts_fits word (b ∷ part) i h =
+    let l : i < length word = omega arith in
+    rw (drop-cons word i 0) (ap (λ t. eqb b (get_or word i 0) && t) (starts_fits word part (suc i) (omega arith)))
 
 -- ---- when an option holds
 
@@ -54,9 +51,9 @@ module _ (text word : List ℕ) (acc : Test) (m i : ℕ) where
   unfolding holds
   holds_byte_lem lo hi = byte_in word i lo hi
 
-  pub holds_stretch : (a b : ℕ) → a + b ≤ length text → holds text (exactly word) acc m i (Stretch a b) ≡ fits (exactly word) i (take b (drop a text))
+  pub holds_stretch : (a b : ℕ) → a + b ≤ length text → i + b ≤ length word → holds text (exactly word) acc m i (Stretch a b) ≡ starts_with eqb (drop i word) (take b (drop a text))
   unfolding holds
-  holds_stretch a b h = rw (stretch_part text a b h)
+  holds_stretch a b h l = rw (stretch_part text a b h) (sym (starts_fits word (take b (drop a text)) i (simp (length-take, length-drop) (omega arith))))
 
   pub holds_split : (k a b : ℕ) → holds text (exactly word) acc m i (Split k a b) ≡ (acc k i a && acc (m - k) (i + k) b)
   unfolding holds
@@ -65,3 +62,5 @@ module _ (text word : List ℕ) (acc : Test) (m i : ℕ) where
   pub holds_nil : holds text (exactly word) acc m i Nil ≡ true
   unfolding holds
   holds_nil = refl
+
+pub ruleset holdings = (holds_byte_lem, holds_stretch, holds_split, holds_nil)

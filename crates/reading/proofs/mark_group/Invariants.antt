@@ -1,6 +1,4 @@
-use lib.ListN.{length}
 use mathlib.Core.Path.{◌≡◌}
-use Prim.Native.Nat.{◌-◌, ◌≤◌}
 use Rattle.reading.specs.Marks.{in_turn, mark_head}
 use Rattle.paper.specs.Gate.{head_at}
 use Rattle.reading.proofs.mark_group.Given as goal
@@ -8,8 +6,4 @@ use Rattle.reading.proofs.mark_group.Given as goal
 -- the heads of the first r rows are marked, and o is where the next one begins
 abbrev pub invariant-loop-r : goal.invariant-loop-r
 invariant-loop-r l =
-    (l.r ≤ l.rows) × (l.o ≡ head_at l.list l.m l.r) × (l.work ≡ in_turn l.r (mark_head l.list l.text l.word l.m) l.initial.work) × (length l.work ≡ length l.initial.work)
-
-abbrev pub decreases-loop-r : goal.decreases-loop-r
-decreases-loop-r l =
-    l.rows - l.r
+    (l.o ≡ head_at l.list l.m l.r) × (l.work ≡ in_turn l.r (mark_head l.list l.text l.word l.m) l.initial.work)

@@ -1,6 +1,4 @@
-use lib.ListN.{length}
 use mathlib.Core.Path.{◌≡◌}
-use Prim.Native.Nat.{◌+◌, ◌-◌, ◌≤◌}
 use Rattle.reading.specs.Marks.{in_turn, mark_start}
 use Rattle.list.specs.Read.{option_of}
 use Rattle.reading.proofs.mark_option.Given as goal
@@ -8,8 +6,4 @@ use Rattle.reading.proofs.mark_option.Given as goal
 -- the option is marked at the first i starts
 abbrev pub invariant-loop-i : goal.invariant-loop-i
 invariant-loop-i l =
-    (l.i + l.m ≤ length l.word + 1) × (l.work ≡ in_turn l.i (mark_start l.text l.word l.m l.r (option_of l.x)) l.initial.work) × (length l.work ≡ length l.initial.work)
-
-abbrev pub decreases-loop-i : goal.decreases-loop-i
-decreases-loop-i l =
-    length l.word + 1 - l.m - l.i
+    (l.work ≡ in_turn l.i (mark_start l.text l.word l.m l.r (option_of l.x)) l.initial.work)
