@@ -24,9 +24,9 @@ use Rattle.sheet_trailer.specs.declared.Table.{Table}
 use Rattle.rows.specs.Sets.{Nulls, Reached, RowsAt}
 use Rattle.sheet.proofs.Rows.{rows_few, rows_all}
 use Rattle.groundwork.specs.Ground.{Ground, pairs_at, pair_word, Splits, some_letter}
-use Rattle.groundwork.specs.Laying.{Below, Closures, Ranges, LettersIn, PairOf, Paired, Pairs, LengthTold, Lengths}
+use Rattle.groundwork.specs.Laying.{Below, Closures, Ranges, LettersIn, PairOf, Pairs, LengthTold, Lengths}
 use Rattle.groundwork.proofs.Frame.{below_then, below_less, below_set, below_copied, below_bit, put_same, put_other}
-use Rattle.groundwork.proofs.ByKind.{no_row_letter, splits_which}
+use Rattle.groundwork.proofs.ByKind.{no_row_letter, splits_which, Paired}
 
 -- ---- reach and the empty words
 
@@ -93,10 +93,6 @@ text_below g q off m e = lt_or_le q (length g.rows) (λ h. h) (λ h. absurd (cla
   where
     clash : row g q ≡ Range 1 0 → ⊥
     clash o = let z : ◌≡◌ {A = ℕ} 0 1 = cc in omega arith
-
--- the last two words leave the length
-pub length_ends : (ws : List ℕ) (x j : ℕ) → length (set (set ws 1292 x) 1293 j) ≡ length ws
-length_ends ws x j = length-set (set ws 1292 x) 1293 j ∙ length-set ws 1292 x
 
 module _ (s : Sheet) (n : ℕ) (all-rows : n ≡ length s.grammar.rows) (few-rows : n ≤ 256) (some : any_below 256 (letter s) ≡ true) where
   pub laid_of : (j x : ℕ) (letters a b c d : List ℕ) → length a ≡ 1294

@@ -1,7 +1,7 @@
 -- What a sheet's groundwork holds, in a table of four words an entry: entries 0 to 255 reach, 256 the rows that derive the empty word,
 -- 257 the ranges that hold a letter, 258 the letters; then a word a pair, at most 256 of them,
 -- a word for the lengths of text rows, and a word for the number of pairs.
-use Rattle.std.specs.Prelude.{ℕ, suc, ◌+◌, ◌*◌, ◌-◌, ◌<◌, ◌≤◌, ◌≡◌, Bool, true, false, List, length, get_or}
+use Rattle.std.specs.Prelude.{ℕ, suc, ◌+◌, ◌*◌, ◌-◌, ◌<◌, ◌≤◌, ◌≡◌, Bool, true, false, List, Option, Some, None, length, get_or}
 use Rattle.paper.specs.Tests.{any_below}
 use Rattle.paper.specs.Rows.{Row, Empty, Range, Text, Alt, Seq, Star, row}
 use Rattle.paper.specs.Decide.{nullable, reaches}
@@ -33,6 +33,15 @@ some_letter s (Star a) = false
 -- the number q of a row that splits its word into a word of row a and a word of row b, as one word
 unfoldable pub pair_word : (q a b : ℕ) → ℕ
 pair_word q a b = q + 256 * a + 65536 * b
+
+-- the pair of row q, given as a row, as one word
+abbrev pub pair_of : ℕ → Row → Option ℕ
+pair_of q (Seq a b) = Some (pair_word q a b)
+pair_of q (Star a) = Some (pair_word q a q)
+pair_of q Empty = None
+pair_of q (Range lo hi) = None
+pair_of q (Text off len) = None
+pair_of q (Alt a b) = None
 
 -- row q, given as a row, splits into a and b: "kind 5 .. its children; kind 6, the same with a its child and b the star row"
 pub data Splits (q : ℕ) : Row → ℕ → ℕ → Type 0 where

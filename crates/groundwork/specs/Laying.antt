@@ -33,14 +33,6 @@ LettersIn s letters = (b : ℕ) → bit_at letters 0 b ≡ letter s b
 abbrev pub PairOf : (q : ℕ) → Row → ℕ → Type 0
 PairOf q r x = (a : ℕ) × (b : ℕ) × (q < 256) × (a < 256) × (b < 256) × (x ≡ pair_word q a b) × Splits q r a b
 
--- row q, given as a row, has had its turn: its pair, if it splits, is word j of the pairs, and the next word is m
-pub record Paired (q : ℕ) (r : Row) (j m : ℕ) (old now : List ℕ) : Type 0 where
-  pub below : Below (pairs_at + j) old now
-  pub least : j ≤ m
-  pub most : m ≤ j + 1
-  pub pair : j < m → PairOf q r (get_or now (pairs_at + j) 0)
-  pub all : (a b : ℕ) → Splits q r a b → (j < m) × (get_or now (pairs_at + j) 0 ≡ pair_word q a b)
-
 -- j words hold the pairs of the rows below n
 pub record Pairs (g : Grammar) (n j : ℕ) (ws : List ℕ) : Type 0 where
   pub few : j ≤ n

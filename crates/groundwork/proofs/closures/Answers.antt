@@ -1,14 +1,8 @@
 use mathlib.Core.Path.{◌∙◌}
 use Rattle.sheet.proofs.Rows.{rows_few, rows_all}
 use Rattle.groundwork.proofs.Laying.{closures_done}
-use borrow.Author.Rules.{rules}
 use native.Mathlib.Omega.{arith}
 use Rattle.groundwork.proofs.closures.Goals as goal
-
-pub reach-requires : goal.reach-requires
-reach-requires c =
-    let p = c.requires in
-    (p.0, search rules, c.nulls.ensures, omega (arith, rows_few p.0.good p.0.table, p.1))
 
 pub returns : goal.returns
 returns c =
