@@ -29,11 +29,15 @@ module _ (S : Sheet) (places : List ℕ) (a b : ℕ) where
       let n = places_length places in
       sym (any_intro (suc (length (places_in places)) - b) stands i (omega arith) e)
 
-  pub nowhere : (i : ℕ) → ((j : ℕ) → j < i → stands j ≡ false) → length places < i + b → (u : List Place) → false ≡ can_hold S (Contains a b) (places_in places) u
+  -- the constant stands at no place from which it ends before e
+  abbrev pub NoneBefore : ℕ → Type 0
+  NoneBefore e = (k : ℕ) → k < e → b ≤ k → stands (k - b) ≡ false
+
+  pub nowhere : (e : ℕ) → NoneBefore e → length places < e → (u : List Place) → false ≡ can_hold S (Contains a b) (places_in places) u
   unfolding can_hold
-  nowhere i h l u =
+  nowhere e h l u =
       let n = places_length places in
-      sym (any_nowhere (suc (length (places_in places)) - b) stands (λ j k. h j (omega arith)))
+      sym (any_nowhere (suc (length (places_in places)) - b) stands (λ j k. let same : j + b - b ≡ j = omega arith in rw same at (h (j + b) (omega arith) (omega arith))))
 
 -- the code's comparison of a stretch is the pattern's
 pub held_here : (s lay places : List ℕ) → Ground (sheet_of s) lay → (i a b : ℕ) → a + b ≤ length (text_of s) → i + b ≤ length places

@@ -1,19 +1,16 @@
 -- The chart that the workspace holds: filled, read, and shared by assertions over one term.
-use Prim.Native.Nat.{ℕ, ◌<◌, ◌≤◌}
+use Prim.Native.Nat.{ℕ, ◌<◌}
 use mathlib.Core.Path.{◌≡◌, refl, sym, ap, subst, ◌∙◌}
 use mathlib.Core.Logic.{◌⊎◌, inl, inr}
-use mathlib.Core.Bool.{Bool, true, true≢false}
+use mathlib.Core.Bool.{Bool}
 use mathlib.Core.List.{List}
 use native.Mathlib.Omega.{arith}
-use borrow.Author.Tests.{eqb-true}
-use lib.Dec.{eqb}
-use lib.ListN.{length, take}
-use lib.Seq.{length-take-le}
+use lib.ListN.{length}
+use Rattle.std.proofs.Common.{Option, Some, None}
 use Rattle.paper.specs.Terms.{Place}
 use Rattle.paper.specs.Sheet.{Claim, Derived, Contains, Equals, ContainsTerm, sheet_of}
 use Rattle.paper.specs.Open.{term_on}
 use Rattle.paper.specs.Opens.{can_hold}
-use Rattle.paper.proofs.Tests.{and_left, and_right}
 use Rattle.sheet_contents.specs.declared.Run.{Run}
 use Rattle.sheet_contents.specs.Read.{as_run}
 use Rattle.workspace.specs.Places.{places_in}
@@ -22,8 +19,7 @@ use Rattle.workspace.specs.Bits.{bit_at}
 use Rattle.chart.specs.Cells.{Charted}
 use Rattle.chart.proofs.Filling.{within_none}
 use Rattle.terms.proofs.Showing.{places_length}
-use Rattle.judge.specs.declared.held.Held.{Held}
-use Rattle.judge.specs.Charts.{Charts, is_of, none_held, held_of, after_of, Left, Meant, Keeps, Asked}
+use Rattle.judge.specs.Charts.{Charts, Left, Meant, Keeps, Asked}
 
 -- ---- a chart, filled and read
 
@@ -39,47 +35,34 @@ unfolding can_hold sheet_of
 derived s places work row x h c e u =
     e ∙ ap (λ (n : ℕ). bit_at work (span_at 0 n) row) (sym (places_length places)) ∙ c.bits (length (places_in places)) 0 row (omega arith) h
 
-pub derived_first : (s of work : List ℕ) (len row : ℕ) (x : Bool) → len ≤ length of → row < 256 → Charts s (places_in (take len of)) work
-    → x ≡ bit_at work (span_at 0 len) row → (u : List Place) → x ≡ can_hold (sheet_of s) (Derived row) (places_in (take len of)) u
-derived_first s of work len row x l h c e = derived s (take len of) work row x h c (e ∙ ap (λ (n : ℕ). bit_at work (span_at 0 n) row) (sym (length-take-le len of l)))
-
 -- ---- whose chart it is
 
-pub none_held_lem : (s : List ℕ) (W : List Place) (work : List ℕ) → Keeps s W none_held work
-unfolding is_of none_held
-none_held_lem s W work = record { meant = λ r. record { chart = λ e. absurd (true≢false (sym e)) } }
+pub none_held : (s : List ℕ) (W : List Place) (work : List ℕ) → Keeps s W None work
+none_held s W work = record { meant = λ r. record { chart = λ e. (cc) } }
 
-same_run : (r q : Run) → is_of (held_of r) q ≡ true → as_run r ≡ as_run q
-unfolding is_of held_of
-same_run r q e =
-    let a = eqb-true r.first q.first (and_left (eqb r.first q.first) _ e) in
-    let b = eqb-true r.count q.count (and_right (eqb r.first q.first) _ e) in
-    rw (a, b)
-
-module _ (s : List ℕ) (W : List Place) (r : Run) (T : List Place) (laid : T ≡ term_on (sheet_of s) W (as_run r)) (h : Held) (old : List ℕ) (keeps : Keeps s W h old) where
+module _ (s : List ℕ) (W : List Place) (r : Run) (T : List Place) (laid : T ≡ term_on (sheet_of s) W (as_run r)) (h : Option Run) (old : List ℕ) (keeps : Keeps s W h old) where
   -- the term of an assertion that is looked at
   pub meant_here : Meant s r T h old
   meant_here = rw laid (keeps.meant r)
 
   -- and after it was looked at
-  pub keeps_on : (after : Held) (new : List ℕ) → Asked s r T h after old new → Keeps s W after new
+  pub keeps_on : (after : Option Run) (new : List ℕ) → Asked s r T h after old new → Keeps s W after new
   keeps_on after new a = go a.held
     where
-      go : ((after ≡ h) × (new ≡ old)) ⊎ ((after ≡ held_of r) × Charts s T new) → Keeps s W after new
+      go : ((after ≡ h) × (new ≡ old)) ⊎ ((after ≡ Some r) × Charts s T new) → Keeps s W after new
       go (inl e) = rw (e.0, e.1) keeps
       go (inr e) = rw e.0 (record {
-        meant = λ q. record { chart = λ is. subst (λ (U : List Place). Charts s U new) (laid ∙ ap (term_on (sheet_of s) W) (same_run r q is)) e.1 };
+        meant = λ q. record { chart = λ is. let same : r ≡ q = cc in subst (λ (U : List Place). Charts s U new) (laid ∙ ap (λ (x : Run). term_on (sheet_of s) W (as_run x)) same) e.1 };
       })
 
 -- ---- a term looked at
 
-module _ (s : List ℕ) (r : Run) (T : List Place) (h : Held) (old : List ℕ) where
+module _ (s : List ℕ) (r : Run) (T : List Place) (h : Option Run) (old : List ℕ) where
   pub asked_none : Asked s r T h h old old
   asked_none = record { within = within_none old; held = inl (refl, refl) }
 
-  pub asked_left : (c : Claim) (new : List ℕ) → Left s c T old new → (after : Held) → after ≡ after_of h c r → Asked s r T h after old new
-  unfolding after_of
-  asked_left (Derived q) new l after is = record { within = l.within; held = inr (is, l.leaves) }
-  asked_left (Contains a b) new l after is = record { within = l.within; held = inl (is, l.leaves) }
-  asked_left (Equals a b) new l after is = record { within = l.within; held = inl (is, l.leaves) }
-  asked_left (ContainsTerm a b) new l after is = record { within = l.within; held = inl (is, l.leaves) }
+  pub asked_left : (c : Claim) (after : Option Run) (new : List ℕ) → Left s c r T h after old new → Asked s r T h after old new
+  asked_left (Derived q) after new l = record { within = l.within; held = inr (l.held, l.leaves) }
+  asked_left (Contains a b) after new l = record { within = l.within; held = inl (l.held, l.leaves) }
+  asked_left (Equals a b) after new l = record { within = l.within; held = inl (l.held, l.leaves) }
+  asked_left (ContainsTerm a b) after new l = record { within = l.within; held = inl (l.held, l.leaves) }

@@ -1,11 +1,13 @@
 -- One assertion, and all of them.
 use Prim.Native.Nat.{ℕ, ◌+◌, ◌<◌, ◌≤◌}
-use mathlib.Core.Path.{◌≡◌, sym, ap, ◌∙◌}
-use mathlib.Core.Bool.{Bool, true, false, not}
+use mathlib.Core.Path.{◌≡◌, refl, sym, ap, ◌∙◌}
+use mathlib.Core.Bool.{Bool, true, false, not, beq}
 use mathlib.Core.List.{List}
 use native.Mathlib.Omega.{arith}
 use borrow.Author.Count.{below_more}
 use lib.ListN.{get_or}
+use Rattle.std.proofs.Common.{Option, None}
+use Rattle.sheet_contents.specs.declared.Run as code
 use Rattle.paper.specs.Tests.{any_of, all_of}
 use Rattle.paper.specs.Trailer.{count_of, longest}
 use Rattle.paper.specs.Terms.{Place, cut_inside}
@@ -20,19 +22,17 @@ use Rattle.chart.proofs.Filling.{within_none, within_then}
 use Rattle.terms.specs.declared.Places.{Places}
 use Rattle.terms.specs.Shown.{shown, Readable}
 use Rattle.terms.proofs.Joining.{one_fails}
-use Rattle.judge.specs.declared.held.Held.{Held}
-use Rattle.judge.specs.declared.Ruled.{Ruled}
-use Rattle.judge.specs.Charts.{none_held, Keeps}
+use Rattle.judge.specs.Charts.{Keeps}
 use Rattle.judge.specs.Judged.{Judged}
-use Rattle.judge.proofs.Holding.{none_held_lem}
+use Rattle.judge.proofs.Holding.{none_held}
 
 -- ---- the sign
 
-module _ (S : Sheet) (a : Assertion) (T U : List Place) where
-  pub can_asserted : (x : Bool) → a.denied ≡ false → x ≡ can_hold S a.claim T U → x ≡ can S a T U
-  unfolding can
-  can_asserted x d e = rw (d, e)
+signed : (x : Bool) → (not (beq x true) ≡ not x) × (not (beq x false) ≡ x)
+signed true = (refl, refl)
+signed false = (refl, refl)
 
+module _ (S : Sheet) (a : Assertion) (T U : List Place) where
   pub can_unknown : a.denied ≡ true → true ≡ any_of is_unknown T → true ≡ can S a T U
   unfolding can can_fail
   can_unknown d e = rw (d, ← e)
@@ -41,9 +41,13 @@ module _ (S : Sheet) (a : Assertion) (T U : List Place) where
   unfolding can can_fail
   can_unknown_2 d e f = rw (d, ← e, ← f)
 
-  pub can_denied : (x : Bool) → a.denied ≡ true → false ≡ any_of is_unknown T → false ≡ any_of is_unknown U → x ≡ can_hold S a.claim T U → not x ≡ can S a T U
+  pub can_asserted : (x : Bool) → a.denied ≡ false → x ≡ can_hold S a.claim T U → not (beq x a.denied) ≡ can S a T U
+  unfolding can
+  can_asserted x d e = rw (d, (signed x).1, e)
+
+  pub can_denied : (x : Bool) → a.denied ≡ true → false ≡ any_of is_unknown T → false ≡ any_of is_unknown U → x ≡ can_hold S a.claim T U → not (beq x a.denied) ≡ can S a T U
   unfolding can can_fail
-  can_denied x d e f g = rw (d, ← e, ← f, g)
+  can_denied x d e f g = rw (d, ← e, ← f, (signed x).0, g)
 
 -- ---- the cuts
 
@@ -85,33 +89,33 @@ pub no_assertion : Assertion
 no_assertion = record { claim = Derived 0; denied = false; term = record { first = 0; count = 0 } }
 
 -- the first i assertions are possible, and the workspace holds what it is said to hold
-pub record Upto (s : List ℕ) (v : Places) (i : ℕ) (h : Held) (start work : List ℕ) : Type 0 where
+pub record Upto (s : List ℕ) (v : Places) (i : ℕ) (h : Option code.Run) (start work : List ℕ) : Type 0 where
   pub possible : (j : ℕ) → j < i → possible (sheet_of s) v.len (shown v) (get_or (sheet_of s).assertions j no_assertion) ≡ true
   pub within : Within start work
   pub keeps : Keeps s (shown v) h work
 
 module _ (s : List ℕ) (v : Places) where
-  pub upto_none : (work : List ℕ) → Upto s v 0 none_held work work
-  upto_none work = record { possible = λ j l. absurd (omega arith); within = within_none work; keeps = none_held_lem s (shown v) work }
+  pub upto_none : (work : List ℕ) → Upto s v 0 None work work
+  upto_none work = record { possible = λ j l. absurd (omega arith); within = within_none work; keeps = none_held s (shown v) work }
 
-  pub upto_all : (i : ℕ) (h : Held) (start work : List ℕ) → Upto s v i h start work → count_of s 4 ≤ i → true ≡ opens_on (sheet_of s) v.len (shown v)
+  pub upto_all : (i : ℕ) (h : Option code.Run) (start work : List ℕ) → Upto s v i h start work → count_of s 4 ≤ i → true ≡ opens_on (sheet_of s) v.len (shown v)
   unfolding opens_on
   upto_all i h start work u l =
       sym (at_all_of (possible (sheet_of s) v.len (shown v)) (sheet_of s).assertions no_assertion (λ k m. u.possible k (omega (arith, assertions_length s, m))))
 
-  module _ (i : ℕ) (h : Held) (start old new : List ℕ) (u : Upto s v i h start old)
-      (a : Assertion) (here : (d : Assertion) → a ≡ get_or (sheet_of s).assertions i d) (r : Ruled) (j : Judged s v a r old new) where
-    judged_here : possible (sheet_of s) v.len (shown v) (get_or (sheet_of s).assertions i no_assertion) ≡ r.ok
+  module _ (i : ℕ) (h : Option code.Run) (start old new : List ℕ) (u : Upto s v i h start old)
+      (a : Assertion) (here : (d : Assertion) → a ≡ get_or (sheet_of s).assertions i d) (ok : Bool) (after : Option code.Run) (j : Judged s v a ok after old new) where
+    judged_here : possible (sheet_of s) v.len (shown v) (get_or (sheet_of s).assertions i no_assertion) ≡ ok
     judged_here = ap (possible (sheet_of s) v.len (shown v)) (sym (here no_assertion)) ∙ sym j.right
 
-    pub upto_more : r.ok ≡ true → Upto s v (i + 1) r.held start new
+    pub upto_more : ok ≡ true → Upto s v (i + 1) after start new
     upto_more e = record {
       possible = below_more _ _ u.possible (judged_here ∙ e);
       within = within_then start old new u.within j.within;
       keeps = j.keeps;
     }
 
-    pub upto_shut : i < count_of s 4 → r.ok ≡ false → false ≡ opens_on (sheet_of s) v.len (shown v)
+    pub upto_shut : i < count_of s 4 → ok ≡ false → false ≡ opens_on (sheet_of s) v.len (shown v)
     unfolding opens_on
     upto_shut l e =
         one_fails (possible (sheet_of s) v.len (shown v)) (sheet_of s).assertions no_assertion i (omega (arith, assertions_length s)) (judged_here ∙ e)

@@ -1,10 +1,6 @@
-use Prim.Native.Nat.{◌-◌}
 use Rattle.judge.proofs.Judging.{Upto}
 use Rattle.judge.proofs.opens_on.Given as goal
 
 -- the first i assertions are possible, and the workspace holds what it is said to hold
 abbrev pub invariant-loop-i : goal.invariant-loop-i
 invariant-loop-i l = Upto l.s l.v l.i l.held l.initial.work l.work
-
-abbrev pub decreases-loop-i : goal.decreases-loop-i
-decreases-loop-i l = l.assertions.count - l.i
