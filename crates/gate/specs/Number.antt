@@ -1,11 +1,15 @@
 -- The paper's number of each answer of the gate.
-use Rattle.std.specs.Prelude.{ℕ}
-use Rattle.gate.specs.declared.answer.Gate.{Gate}
-use Rattle.gate.specs.declared.answer.Gate.TheVariants.{Yes, No, Malformed, Length, Workspace}
+use Rattle.std.specs.Prelude.{ℕ, Bool, cond, Result, Ok, Err}
+use Rattle.gate.specs.declared.answer.Refusal.{Refusal}
+use Rattle.gate.specs.declared.answer.Refusal.TheVariants.{Malformed, Length, Workspace}
 
-abbrev pub number_of : Gate → ℕ
-number_of Yes = 0
-number_of No = 1
-number_of Malformed = 30
-number_of Length = 31
-number_of Workspace = 18
+-- the number of a refusal
+abbrev pub refused : Refusal → ℕ
+refused Workspace = 18
+refused Malformed = 30
+refused Length = 31
+
+-- yes, no, or a refusal
+abbrev pub number_of : Result Bool Refusal → ℕ
+number_of (Ok accepted) = cond accepted 0 1
+number_of (Err refusal) = refused refusal

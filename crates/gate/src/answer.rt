@@ -2,23 +2,20 @@
 ghost use Rattle.std.specs.Prelude.{◌≡◌};
 ghost use Rattle.gate.specs.Number.{number_of};
 
-#[derive(Clone, Copy)]
-pub enum Gate {
-    Yes,
-    No,
-    Malformed,
-    Length,
-    Workspace,
+// Why the gate says neither yes nor no, each by the paper's number.
+#[derive(Clone, Copy, PartialEq, Eq, Debug)]
+pub enum Refusal {
+    Workspace = 18,
+    Malformed = 30,
+    Length = 31,
 }
 
-pub fn number(g: Gate) -> u32
-    ensures { result ≡ number_of g }
+pub fn number(answer: Result<bool, Refusal>) -> u32
+    ensures { result ≡ number_of answer }
 {
-    match g {
-        Gate::Yes => 0,
-        Gate::No => 1,
-        Gate::Malformed => 30,
-        Gate::Length => 31,
-        Gate::Workspace => 18,
+    match answer {
+        Ok(true) => 0,
+        Ok(false) => 1,
+        Err(refusal) => refusal as u32,
     }
 }

@@ -6,25 +6,22 @@ pub mod answer;
 ghost use Rattle.paper.specs.Promises.{Gates};
 ghost use Rattle.gate.specs.Number.{number_of};
 
-pub use answer::{Gate, number};
+pub use answer::{Refusal, number};
 
 // Whether the list accepts the word, with the text: on any list, text, word and workspace.
-pub fn gate(list: &[u8], text: &[u8], word: &[u8], work: &mut [u64]) -> Gate
+#[tactic(auto, using(list::proofs::Formed::right_trailer), unfolding(paper::specs::Answers::gate_says, paper::specs::Answers::gate_leaves, paper::specs::Answers::words))]
+pub fn gate(list: &[u8], text: &[u8], word: &[u8], work: &mut [u64]) -> Result<bool, Refusal>
     ensures { Gates list.now text.now word.now work.old (number_of result) work.new }
 {
     if !list::well_formed(list, text.len()) {
-        return Gate::Malformed;
+        return Err(Refusal::Malformed);
     }
     let n = list::fields::trailer_of(list).n;
     if word.len() != n {
-        return Gate::Length;
+        return Err(Refusal::Length);
     }
     if work.len() < paper::WORDS {
-        return Gate::Workspace;
+        return Err(Refusal::Workspace);
     }
-    if reading::read(list, text, word, work) {
-        Gate::Yes
-    } else {
-        Gate::No
-    }
+    Ok(reading::read(list, text, word, work))
 }

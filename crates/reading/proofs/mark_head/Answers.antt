@@ -9,7 +9,6 @@ use Rattle.reading.specs.Marks.{mark_option}
 use Rattle.list.specs.Read.{option_of}
 use Rattle.paper.proofs.Obeys.{Obeys}
 use Rattle.paper.specs.Gate.{option_count}
-use Rattle.reading.proofs.mark_head.Goals.{Start}
 use Rattle.reading.proofs.mark_head.Goals as goal
 
 pub loop-j-init : goal.loop-j-init
