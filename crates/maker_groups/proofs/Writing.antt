@@ -8,13 +8,12 @@ use native.Mathlib.Numerals.{add-one}
 use native.Mathlib.Nat.{zero-add}
 use lib.ListN.{length}
 use Rattle.paper.specs.Tests.{gather}
-use Rattle.paper.specs.Cuts.{Opt, Byte, Stretch, Split, Nil, splits, option_bytes, all_bytes}
+use Rattle.paper.specs.Cuts.{Opt, Split, splits, option_bytes, all_bytes}
 use Rattle.paper.proofs.Gathered.{gather_suc}
 use Rattle.paper.proofs.Encoding.{length_options}
 use Rattle.numbers.specs.Put.{Put}
 use Rattle.numbers.proofs.Stores.{put_none, put_more, put_same}
 use Rattle.maker_options.proofs.Options.{splits_length}
-use Rattle.maker_groups.specs.Parts.{field_bytes}
 
 -- ---- one part more
 
@@ -44,25 +43,8 @@ pub options_none : (o : ℕ) (l : List ℕ) → Put (all_bytes []) o l l o
 unfolding all_bytes
 options_none o l = put_none o l
 
-module _ {o e : ℕ} {l now : List ℕ} where
-  one : (x : Opt) → Put (option_bytes x) o l now e → Put (all_bytes (x ∷ [])) o l now e
-  one x h = put_same (sym (all_one x)) h
-
-  pub one_byte : (a b : ℕ) → Put (field_bytes 1 0 a b) o l now e → Put (all_bytes (Byte a b ∷ [])) o l now e
-  unfolding field_bytes option_bytes
-  one_byte a b h = one (Byte a b) h
-
-  pub one_stretch : (a b : ℕ) → Put (field_bytes 2 0 a b) o l now e → Put (all_bytes (Stretch a b ∷ [])) o l now e
-  unfolding field_bytes option_bytes
-  one_stretch a b h = one (Stretch a b) h
-
-  pub one_split : (k a b : ℕ) → Put (field_bytes 3 k a b) o l now e → Put (all_bytes (Split k a b ∷ [])) o l now e
-  unfolding field_bytes option_bytes
-  one_split k a b h = one (Split k a b) h
-
-  pub one_nil : Put (field_bytes 4 0 0 0) o l now e → Put (all_bytes (Nil ∷ [])) o l now e
-  unfolding field_bytes option_bytes
-  one_nil h = one Nil h
+pub options_one : (x : Opt) {o e : ℕ} {l now : List ℕ} → Put (option_bytes x) o l now e → Put (all_bytes (x ∷ [])) o l now e
+options_one x h = put_same (sym (all_one x)) h
 
 -- ---- splits
 
@@ -81,8 +63,8 @@ splits_more k a b h =
 pub splits_start : (a b o : ℕ) (l : List ℕ) → Put (all_bytes (splits 1 a b)) o l l o
 splits_start a b o l = put_same (ap all_bytes (sym (splits_none a b))) (options_none o l)
 
-pub splits_turn : (k i j : ℕ) → 1 ≤ k → {o p e : ℕ} {a b c : List ℕ} → Put (all_bytes (splits k i j)) o a b p → Put (field_bytes 3 k i j) p b c e → Put (all_bytes (splits (k + 1) i j)) o a c e
-splits_turn k i j h x y = put_same (ap all_bytes (sym (splits_more k i j h))) (options_more (splits k i j) (Split k i j ∷ []) x (one_split k i j y))
+pub splits_turn : (k i j : ℕ) → 1 ≤ k → {o p e : ℕ} {a b c : List ℕ} → Put (all_bytes (splits k i j)) o a b p → Put (option_bytes (Split k i j)) p b c e → Put (all_bytes (splits (k + 1) i j)) o a c e
+splits_turn k i j h x y = put_same (ap all_bytes (sym (splits_more k i j h))) (options_more (splits k i j) (Split k i j ∷ []) x (options_one (Split k i j) y))
 
 pub splits_size : (m a b : ℕ) → length (all_bytes (splits m a b)) ≡ 8 * (m - 1)
 splits_size m a b = length_options (splits m a b) ∙ ap (λ (z : ℕ). 8 * z) (splits_length m a b)

@@ -1,18 +1,34 @@
-// Heads, options and the mark at a place of the list. Each writer hands back where it ended.
+// Heads and options at a place of the list. Each writer hands back where it ended.
 ghost use Rattle.std.specs.Prelude.{◌+◌, ◌≤◌, length};
-ghost use Rattle.paper.specs.Cuts.{head_bytes};
+ghost use Rattle.paper.specs.Cuts.{option_bytes, head_bytes};
 ghost use Rattle.numbers.specs.Put.{Put};
-ghost use Rattle.maker_groups.specs.Parts.{field_bytes, «mark»};
+ghost use Rattle.maker_groups.specs.Parts.{as_opt};
+
+// How a row's word is made: one byte from a to b; b bytes of the text from offset a on; the first k bytes by row a and the rest by row b;
+// or the empty word.
+#[derive(Clone, Copy)]
+pub enum Opt {
+    Byte(usize, usize),
+    Stretch(usize, usize),
+    Split(u8, usize, usize),
+    Nil,
+}
 
 // An option at o.
-pub fn put_option(list: &mut [u8], o: usize, kind: u8, k: u8, a: usize, b: usize) -> usize
+pub fn put_option(list: &mut [u8], o: usize, x: Opt) -> usize
     requires { o + 8 ≤ length list.old }
-    ensures { Put (field_bytes kind k a b) o list.old list.new result }
+    ensures { Put (option_bytes (as_opt x)) o list.old list.new result }
 {
-    let p = numbers::put_pair(list, o, kind, k);
-    let x = numbers::put_u16(list, p, a);
-    let y = numbers::put_u16(list, x, b);
-    numbers::put_u16(list, y, 0)
+    let (kind, k, a, b) = match x {
+        Opt::Byte(low, high) => (1, 0, low, high),
+        Opt::Stretch(off, len) => (2, 0, off, len),
+        Opt::Split(k, a, b) => (3, k, a, b),
+        Opt::Nil => (4, 0, 0, 0),
+    };
+    let p = numbers::put_bytes(list, o, &[kind, k]);
+    let p = numbers::put_u16(list, p, a);
+    let p = numbers::put_u16(list, p, b);
+    numbers::put_u16(list, p, 0)
 }
 
 // A head at o.
@@ -21,15 +37,6 @@ pub fn put_head(list: &mut [u8], o: usize, r: usize, m: u8, count: usize) -> usi
     ensures { Put (head_bytes r m count) o list.old list.new result }
 {
     let p = numbers::put_u16(list, o, r);
-    let c = numbers::put_pair(list, p, m, 0);
-    numbers::put_u32(list, c, count)
-}
-
-// The mark `CUT1` at o.
-pub fn put_mark(list: &mut [u8], o: usize) -> usize
-    requires { o + 4 ≤ length list.old }
-    ensures { Put «mark» o list.old list.new result }
-{
-    let p = numbers::put_pair(list, o, b'C', b'U');
-    numbers::put_pair(list, p, b'T', b'1')
+    let p = numbers::put_bytes(list, p, &[m, 0]);
+    numbers::put_u32(list, p, count)
 }

@@ -10,6 +10,7 @@ ghost use Rattle.numbers.specs.Put.{Put};
 ghost use Rattle.sheet_contents.specs.Read.{as_row};
 ghost use Rattle.maker_options.specs.Prepared.{Prepared};
 
+use bytes::Opt;
 use maker_options::{Job, sizes};
 use sheet_contents::Row;
 
@@ -19,10 +20,8 @@ fn put_splits(list: &mut [u8], o: usize, m: usize, a: usize, b: usize) -> usize
     ensures { Put (all_bytes (splits m a b)) o list.old list.new result }
 {
     let mut p = o;
-    let mut k = 1;
-    while k < m {
-        p = bytes::put_option(list, p, 3, k as u8, a, b);
-        k += 1;
+    for k in 1..m as u8 {
+        p = bytes::put_option(list, p, Opt::Split(k, a, b));
     }
     p
 }
@@ -33,22 +32,12 @@ fn put_own(list: &mut [u8], o: usize, row: Row, m: usize, q: usize) -> usize
     ensures { Put (all_bytes (own_opts m q (as_row row))) o list.old list.new result }
 {
     match row {
-        Row::Empty => o,
-        Row::Range(low, high) => {
-            if m == 1 {
-                return bytes::put_option(list, o, 1, 0, low, high);
-            }
-            o
-        }
-        Row::Text(off, len) => {
-            if len == m {
-                return bytes::put_option(list, o, 2, 0, off, len);
-            }
-            o
-        }
-        Row::Alt(_, _) => o,
+        Row::Range(low, high) if m == 1 => bytes::put_option(list, o, Opt::Byte(low, high)),
+        Row::Text(off, len) if len == m => bytes::put_option(list, o, Opt::Stretch(off, len)),
         Row::Seq(a, b) => put_splits(list, o, m, a, b),
         Row::Star(a) => put_splits(list, o, m, a, q),
+        Row::Range(..) | Row::Text(..) => o,
+        Row::Empty | Row::Alt(..) => o,
     }
 }
 
@@ -65,23 +54,21 @@ fn put_options(s: &[u8], ws: &[u64], list: &mut [u8], j: Job, t: Spot) -> usize
     requires { Prepared s.now ws.now j × (t.m ≤ j.n) × (t.r < j.rows.count) × (t.o + 8 * length (options (grammar_of s.now) t.m t.r) ≤ length list.old) }
     ensures { Put (all_bytes (options (grammar_of s.now) t.m t.r)) t.o list.old list.new result }
 {
-    let m = t.m;
-    let r = t.r;
-    let o = t.o;
+    let Spot { m, r, o } = t;
     if m == 0 {
-        if workspace::test(ws, 256, r) {
-            return bytes::put_option(list, o, 4, 0, 0, 0);
-        }
-        return o;
+        return if workspace::test(ws, 256, r) {
+            bytes::put_option(list, o, Opt::Nil)
+        } else {
+            o
+        };
     }
-    let mut p = o;
-    let mut q = sizes::next(ws, r, m, 0, j.rows.count);
-    while q < j.rows.count {
-        let row = sheet::row_at(s, j.rows, q);
-        p = put_own(list, p, row, m, q);
-        q = sizes::next(ws, r, m, q + 1, j.rows.count);
+    let mut end = o;
+    let mut p = 0;
+    while let Some(q) = sizes::next(ws, r, m, p, j.rows.count) {
+        end = put_own(list, end, sheet::row_at(s, j.rows, q), m, q);
+        p = q + 1;
     }
-    p
+    end
 }
 
 // The head and the options of row r at length m, at o.
@@ -100,10 +87,8 @@ fn put_group(s: &[u8], ws: &[u64], list: &mut [u8], j: Job, m: usize, o: usize) 
     ensures { Put (group (grammar_of s.now) m) o list.old list.new result }
 {
     let mut p = o;
-    let mut r = 0;
-    while r < j.rows.count {
+    for r in 0..j.rows.count {
         p = put_entry(s, ws, list, j, Spot { m, r, o: p });
-        r += 1;
     }
     p
 }
@@ -114,10 +99,8 @@ pub fn put_groups(s: &[u8], ws: &[u64], list: &mut [u8], j: Job) -> usize
     ensures { Put (groups (grammar_of s.now) (j.n + 1)) 0 list.old list.new result }
 {
     let mut p = 0;
-    let mut m = 0;
-    while m <= j.n {
+    for m in 0..j.n + 1 {
         p = put_group(s, ws, list, j, m, p);
-        m += 1;
     }
     p
 }

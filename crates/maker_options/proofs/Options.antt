@@ -8,6 +8,7 @@ use native.Mathlib.Omega.{arith}
 use native.Mathlib.Numerals.{add-one}
 use native.Mathlib.Nat.{add-zero, zero-add, add-suc}
 use lib.Dec.{eqb}
+use Rattle.std.specs.Int.{from_bool}
 use lib.ListN.{length}
 use borrow.Author.Tests.{eqb-true, not-false}
 use Rattle.paper.specs.Tests.{gather}
@@ -26,6 +27,11 @@ use Rattle.maker_options.specs.Prepared.{Ready, chosen}
 pub splits_length : (m a b : ℕ) → length (splits m a b) ≡ m - 1
 unfolding splits
 splits_length m a b = gather_length 1 1 (m - 1) (λ k. Split k a b ∷ []) (λ k. refl) ∙ omega arith
+
+-- one option where the test passes
+pub one_if : (b : Bool) (x : Opt) → length (cond b (x ∷ []) []) ≡ from_bool b
+one_if true x = refl
+one_if false x = refl
 
 -- ---- gathered from the rows below q
 

@@ -2,8 +2,9 @@
 -- Assumes nothing.
 use Prim.Native.Nat.{ℕ, ◌+◌, ◌*◌, ◌≤◌, ◌<◌}
 use mathlib.Core.Path.{◌≡◌, refl, sym, ap, ◌∙◌}
-use mathlib.Core.Bool.{true, false}
+use mathlib.Core.Bool.{cond}
 use mathlib.Core.List.{List, [], ◌∷◌, ◌++◌}
+use Rattle.std.specs.Prelude.{Some, None}
 use native.Mathlib.Omega.{arith}
 use native.Mathlib.Numerals.{add-one}
 use native.Mathlib.Nat.{zero-add}
@@ -18,7 +19,7 @@ use Rattle.paper.proofs.Encoding.{length_entry, length_groups}
 use Rattle.paper.proofs.Sound.{Sound}
 use Rattle.paper.proofs.Obeys.{options_few, group_most, groups_most}
 use Rattle.workspace.specs.Bits.{bit_at}
-use Rattle.workspace.specs.Scan.{First}
+use Rattle.workspace.specs.Scan.{First, FirstOf}
 use Rattle.workspace.proofs.Spans.{lt_or_le}
 use Rattle.sheet_contents.specs.declared.Row.{Row}
 use Rattle.sheet_contents.specs.Read.{as_row}
@@ -28,7 +29,7 @@ use Rattle.sheet.proofs.Soundness.{good_sound}
 use Rattle.maker_options.specs.declared.Job.{Job}
 use Rattle.maker_options.specs.Giving.{from_below}
 use Rattle.maker_options.specs.Prepared.{JobOf, Prepared, chosen, Offsets}
-use Rattle.maker_options.proofs.Options.{below_none, below_rises, below_next, below_more, below_done, options_nil}
+use Rattle.maker_options.proofs.Options.{below_rises, below_next, below_more, below_done, options_nil}
 
 -- ---- entries and groups
 
@@ -101,11 +102,8 @@ module _ {s ws : List ℕ} {j : Job} (p : Prepared s ws j) where
   module _ (m r : ℕ) where
     -- ---- length 0
 
-    pub nil_some : m ≡ 0 → bit_at ws 256 r ≡ true → options (grammar_of s) m r ≡ Nil ∷ []
-    nil_some z e = rw z (options_nil (grammar_of s) r true (sym (p.ready.nil r) ∙ e))
-
-    pub nil_none : m ≡ 0 → bit_at ws 256 r ≡ false → options (grammar_of s) m r ≡ []
-    nil_none z e = rw z (options_nil (grammar_of s) r false (sym (p.ready.nil r) ∙ e))
+    pub nil_options : m ≡ 0 → options (grammar_of s) m r ≡ cond (bit_at ws 256 r) (Nil ∷ []) []
+    nil_options z = rw z (options_nil (grammar_of s) r (bit_at ws 256 r) (sym (p.ready.nil r)))
 
     -- ---- the rows that are met, at a length of at least 1
 
@@ -113,38 +111,31 @@ module _ {s ws : List ℕ} {j : Job} (p : Prepared s ws j) where
       rows_in : r < length (grammar_of s).rows
       rows_in = omega (arith, job_rows p.job)
 
-      next_as : (a b : ℕ) → First (chosen ws r m) a j.rows.count b → First (chosen ws r m) a (length (grammar_of s).rows) b
-      next_as a b h = rw (job_rows p.job) at h
+      passed : (a b : ℕ) → First (chosen ws r m) a j.rows.count b → from_below (grammar_of s) m r b ≡ from_below (grammar_of s) m r a
+      passed a b h = below_next (grammar_of s) j.n ws p.ready m r low high rows_in a b (rw (job_rows p.job) at h)
 
-      pub met_first : (q : ℕ) → First (chosen ws r m) 0 j.rows.count q → from_below (grammar_of s) m r q ≡ []
-      met_first q h = below_next (grammar_of s) j.n ws p.ready m r low high rows_in 0 q (next_as 0 q h) ∙ below_none (grammar_of s) m r
+      all_rows : options (grammar_of s) m r ≡ from_below (grammar_of s) m r j.rows.count
+      all_rows = below_done (grammar_of s) j.n ws p.ready m r low high rows_in j.rows.count (job_rows p.job)
 
-      met_own : (q : ℕ) (x : Row) → q < j.rows.count → chosen ws r m q ≡ true → RowRead s q x
-          → from_below (grammar_of s) m r (q + 1) ≡ from_below (grammar_of s) m r q ++ own_opts m q (as_row x)
-      met_own q x l e h = below_more (grammar_of s) j.n ws p.ready m r low high rows_in q (omega (arith, job_rows p.job)) e ∙ rw h.same
+      -- from row a on, row q is met next
+      pub met_turn : (a q : ℕ) (x : Row) → FirstOf (chosen ws r m) a j.rows.count (Some q) → RowRead s q x
+          → from_below (grammar_of s) m r (q + 1) ≡ from_below (grammar_of s) m r a ++ own_opts m q (as_row x)
+      met_turn a q x h y =
+          below_more (grammar_of s) j.n ws p.ready m r low high rows_in q (omega (arith, h.0, job_rows p.job)) (h.1.hit h.0) ∙ rw (passed a q h.1, y.same)
 
-      pub met_turn : (q t : ℕ) (x : Row) → q < j.rows.count → chosen ws r m q ≡ true → RowRead s q x → First (chosen ws r m) (q + 1) j.rows.count t
-          → from_below (grammar_of s) m r t ≡ from_below (grammar_of s) m r q ++ own_opts m q (as_row x)
-      met_turn q t x l e y h = below_next (grammar_of s) j.n ws p.ready m r low high rows_in (q + 1) t (next_as (q + 1) t h) ∙ met_own q x l e y
+      pub met_length : (a q : ℕ) (x : Row) → FirstOf (chosen ws r m) a j.rows.count (Some q) → RowRead s q x
+          → length (from_below (grammar_of s) m r (q + 1)) ≡ length (from_below (grammar_of s) m r a) + length (own_opts m q (as_row x))
+      met_length a q x h y = ap length (met_turn a q x h y) ∙ length-append (from_below (grammar_of s) m r a) (own_opts m q (as_row x))
 
-      pub met_length : (q t : ℕ) (x : Row) → q < j.rows.count → chosen ws r m q ≡ true → RowRead s q x → First (chosen ws r m) (q + 1) j.rows.count t
-          → length (from_below (grammar_of s) m r t) ≡ length (from_below (grammar_of s) m r q) + length (own_opts m q (as_row x))
-      met_length q t x l e y h = ap length (met_turn q t x l e y h) ∙ length-append (from_below (grammar_of s) m r q) (own_opts m q (as_row x))
-
-      pub met_all : (q : ℕ) → q ≤ j.rows.count → (q < j.rows.count → ⊥) → options (grammar_of s) m r ≡ from_below (grammar_of s) m r q
-      met_all q u v = below_done (grammar_of s) j.n ws p.ready m r low high rows_in q (omega (arith, job_rows p.job))
+      -- from row a on, no row is met
+      pub met_all : (a : ℕ) → FirstOf (chosen ws r m) a j.rows.count None → options (grammar_of s) m r ≡ from_below (grammar_of s) m r a
+      met_all a h = all_rows ∙ passed a j.rows.count h
 
       -- a row's own options are among the row's options
-      pub met_inside : (q : ℕ) (x : Row) → q < j.rows.count → chosen ws r m q ≡ true → RowRead s q x
-          → length (from_below (grammar_of s) m r q) + length (own_opts m q (as_row x)) ≤ length (options (grammar_of s) m r)
-      met_inside q x l e y =
-          omega (
-            arith,
-            ap length (met_own q x l e y),
-            length-append (from_below (grammar_of s) m r q) (own_opts m q (as_row x)),
-            below_rises (grammar_of s) m r (q + 1) j.rows.count (omega arith),
-            ap length (met_all j.rows.count (omega arith) (λ z. omega arith)),
-          )
+      pub met_inside : (a q : ℕ) (x : Row) → FirstOf (chosen ws r m) a j.rows.count (Some q) → RowRead s q x
+          → length (from_below (grammar_of s) m r a) + length (own_opts m q (as_row x)) ≤ length (options (grammar_of s) m r)
+      met_inside a q x h y =
+          omega (arith, met_length a q x h y, below_rises (grammar_of s) m r (q + 1) j.rows.count (omega (arith, h.0)), ap length all_rows)
 
 -- past the last row
 pub rows_end : (r rows n : ℕ) → r ≤ rows → (r < rows → ⊥) → rows ≡ n → r ≡ n

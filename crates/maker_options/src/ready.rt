@@ -12,11 +12,8 @@ fn turn_row(from: &[u64], n: usize, ws: &mut [u64], r: usize)
     ensures { Entry r n (across from.now r) ws.old ws.new }
 {
     workspace::wipe(ws, r);
-    let mut q = 0;
-    while q < n {
-        let on = workspace::test(from, q, r);
-        workspace::put(ws, r, q, on);
-        q += 1;
+    for q in 0..n {
+        workspace::put(ws, r, q, workspace::test(from, q, r));
     }
 }
 
@@ -25,10 +22,8 @@ fn turn(from: &[u64], n: usize, ws: &mut [u64])
     requires { (n ≤ 256) × (4 * n ≤ length from.now) × (length ws.old ≡ 1268) }
     ensures { Turned from.now n n ws.new }
 {
-    let mut r = 0;
-    while r < n {
+    for r in 0..n {
         turn_row(from, n, ws, r);
-        r += 1;
     }
 }
 
@@ -38,12 +33,9 @@ fn give(s: &[u8], j: Job, ws: &mut [u64], m: usize)
     ensures { Entry (256 + m) j.rows.count (giving (grammar_of s.now) m) ws.old ws.new }
 {
     workspace::wipe(ws, 256 + m);
-    let mut q = 0;
-    while q < j.rows.count {
-        let row = sheet::row_at(s, j.rows, q);
-        let count = sizes::own_count(row, m);
+    for q in 0..j.rows.count {
+        let count = sizes::own_count(sheet::row_at(s, j.rows, q), m);
         workspace::put(ws, 256 + m, q, count != 0);
-        q += 1;
     }
 }
 
@@ -52,10 +44,8 @@ fn give_all(s: &[u8], j: Job, ws: &mut [u64])
     requires { JobOf s.now j × (length ws.old ≡ 1268) }
     ensures { Given (grammar_of s.now) (j.n + 1) ws.old ws.new }
 {
-    let mut m = 1;
-    while m <= j.n {
+    for m in 1..j.n + 1 {
         give(s, j, ws, m);
-        m += 1;
     }
 }
 

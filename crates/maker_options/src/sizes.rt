@@ -2,7 +2,7 @@
 ghost use Rattle.std.specs.Prelude.{◌≡◌, ◌+◌, ◌*◌, ◌≤◌, ◌<◌, length};
 ghost use Rattle.paper.specs.Sheet.{grammar_of};
 ghost use Rattle.paper.specs.Cuts.{options, group, groups};
-ghost use Rattle.workspace.specs.Scan.{First};
+ghost use Rattle.workspace.specs.Scan.{FirstOf};
 ghost use Rattle.sheet_contents.specs.Read.{as_row};
 ghost use Rattle.maker_options.specs.Giving.{Gives};
 ghost use Rattle.maker_options.specs.Prepared.{Prepared, chosen, Offsets};
@@ -16,29 +16,17 @@ pub fn own_count(r: Row, m: usize) -> usize
     ensures { Gives m (as_row r) result }
 {
     match r {
-        Row::Empty => 0,
-        Row::Range(_, _) => {
-            if m == 1 {
-                return 1;
-            }
-            0
-        }
-        Row::Text(_, len) => {
-            if len == m {
-                return 1;
-            }
-            0
-        }
-        Row::Alt(_, _) => 0,
-        Row::Seq(_, _) => m - 1,
-        Row::Star(_) => m - 1,
+        Row::Empty | Row::Alt(..) => 0,
+        Row::Range(..) => usize::from(m == 1),
+        Row::Text(_, len) => usize::from(len == m),
+        Row::Seq(..) | Row::Star(_) => m - 1,
     }
 }
 
-// The first row from p on that row r reaches and that gives an option at length m, or n.
-pub fn next(ws: &[u64], r: usize, m: usize, p: usize, n: usize) -> usize
+// The first row from p on that row r reaches and that gives an option at length m, if there is one.
+pub fn next(ws: &[u64], r: usize, m: usize, p: usize, n: usize) -> Option<usize>
     requires { (length ws.now ≡ 1268) × (r < 256) × (m ≤ 60) × (p ≤ n) × (n ≤ 256) }
-    ensures { First (chosen ws.now r m) p n result }
+    ensures { FirstOf (chosen ws.now r m) p n result }
 {
     workspace::next(ws, r, 256 + m, p, n)
 }
@@ -49,17 +37,13 @@ pub fn option_count(s: &[u8], ws: &[u64], j: Job, m: usize, r: usize) -> usize
     ensures { result ≡ length (options (grammar_of s.now) m r) }
 {
     if m == 0 {
-        if workspace::test(ws, 256, r) {
-            return 1;
-        }
-        return 0;
+        return usize::from(workspace::test(ws, 256, r));
     }
     let mut c = 0;
-    let mut q = next(ws, r, m, 0, j.rows.count);
-    while q < j.rows.count {
-        let row = sheet::row_at(s, j.rows, q);
-        c += own_count(row, m);
-        q = next(ws, r, m, q + 1, j.rows.count);
+    let mut p = 0;
+    while let Some(q) = next(ws, r, m, p, j.rows.count) {
+        c += own_count(sheet::row_at(s, j.rows, q), m);
+        p = q + 1;
     }
     c
 }
@@ -70,10 +54,8 @@ fn group_length(s: &[u8], ws: &[u64], j: Job, m: usize) -> usize
     ensures { result ≡ length (group (grammar_of s.now) m) }
 {
     let mut total = 0;
-    let mut r = 0;
-    while r < j.rows.count {
+    for r in 0..j.rows.count {
         total += 8 + 8 * option_count(s, ws, j, m, r);
-        r += 1;
     }
     total
 }
@@ -84,11 +66,9 @@ pub fn measure(s: &[u8], ws: &[u64], j: Job, offsets: &mut [usize]) -> usize
     ensures { (result ≡ length (groups (grammar_of s.now) (j.n + 1))) × Offsets (grammar_of s.now) (j.n + 1) offsets.new }
 {
     let mut total = 0;
-    let mut m = 0;
-    while m <= j.n {
+    for m in 0..j.n + 1 {
         offsets[m] = total;
         total += group_length(s, ws, j, m);
-        m += 1;
     }
     total
 }

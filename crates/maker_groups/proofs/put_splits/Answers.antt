@@ -1,4 +1,3 @@
-use borrow.Author.Rules.{rules}
 use Prim.Native.Nat.{ℕ}
 use mathlib.Core.Path.{◌≡◌, ap}
 use native.Mathlib.Omega.{arith}
@@ -10,21 +9,21 @@ use Rattle.maker_groups.proofs.put_splits.Goals as goal
 pub loop-k-init : goal.loop-k-init
 loop-k-init c =
     let a = c.args in
-    (omega arith, omega arith, splits_start a.a a.b a.o a.list.now, search rules)
+    splits_start a.a a.b a.o a.list.now
 
 pub put_option-p-requires : goal.put_option-p-requires
 put_option-p-requires c =
     let a = c.args in
     let l = c.loop-k in
-    omega (arith, splits_size l.k a.a a.b, l.invariant.2.stop)
+    omega (arith, splits_size l.k a.a a.b, l.invariant.stop)
 
 pub loop-k-preserved : goal.loop-k-preserved
 loop-k-preserved c =
     let a = c.args in
     let l = c.loop-k in
-    (omega arith, omega arith, splits_turn l.k a.a a.b l.invariant.0 l.invariant.2 c.put_option-p.ensures, search rules)
+    splits_turn l.k a.a a.b (omega arith) l.invariant c.put_option-p.ensures
 
 pub returns : goal.returns
 returns c =
     let a = c.args in
-    let e : c.loop-k.k ≡ a.m = omega arith in put_same (ap (λ (z : ℕ). all_bytes (splits z a.a a.b)) e) c.loop-k.invariant.2
+    let e : c.loop-k.k ≡ a.m = omega arith in put_same (ap (λ (z : ℕ). all_bytes (splits z a.a a.b)) e) c.loop-k.invariant

@@ -5,4 +5,4 @@ use Rattle.maker_groups.proofs.bytes.put_head.Goals as goal
 
 pub returns : goal.returns
 unfolding u16 head_bytes
-returns c = put_more (put_more c.put_u16-p.ensures.0 c.put_pair-c.ensures) c.put_u32.ensures.0
+returns c = put_more (put_more c.put_u16-p.ensures.0 c.put_bytes-p.ensures) c.put_u32.ensures.0

@@ -1,4 +1,3 @@
-use Prim.Native.Nat.{◌≤◌, ◌-◌}
 use mathlib.Core.Path.{◌≡◌}
 use lib.ListN.{length}
 use Rattle.paper.specs.Tests.{gather}
@@ -8,7 +7,4 @@ use Rattle.maker_options.proofs.sizes.group_length.Given as goal
 
 -- the entries of the rows below r are counted
 abbrev pub invariant-loop-r : goal.invariant-loop-r
-invariant-loop-r l = (l.r ≤ l.j.rows.count) × (l.total ≡ length (gather 0 l.r (entry (grammar_of l.s) l.m)))
-
-abbrev pub decreases-loop-r : goal.decreases-loop-r
-decreases-loop-r l = l.j.rows.count - l.r
+invariant-loop-r l = l.total ≡ length (gather 0 l.r (entry (grammar_of l.s) l.m))

@@ -1,8 +1,7 @@
-use borrow.Author.Rules.{rules}
 use Prim.Native.Nat.{ℕ, ◌+◌}
 use mathlib.Core.Path.{◌≡◌, ap, ◌∙◌, subst}
 use native.Mathlib.Omega.{arith}
-use lib.ListN.{length, length-set}
+use lib.ListN.{length}
 use Rattle.paper.specs.Sheet.{grammar_of}
 use Rattle.paper.specs.Cuts.{groups}
 use Rattle.maker_options.specs.Prepared.{Offsets}
@@ -10,31 +9,19 @@ use Rattle.maker_options.proofs.Turns.{groups_none, groups_more, groups_inside, 
 use Rattle.maker_options.proofs.sizes.measure.Goals as goal
 
 pub loop-m-init : goal.loop-m-init
-loop-m-init c = (omega arith, groups_none (grammar_of c.args.s.now), record { each = λ k l. absurd (omega arith) }, search rules)
-
-pub offset_bounds-offsets-m : goal.offset_bounds-offsets-m
-offset_bounds-offsets-m c = omega (arith, c.requires.0.job.short)
-
-pub bounds-offsets-m : goal.bounds-offsets-m
-bounds-offsets-m c = omega (arith, c.requires.0.job.short)
-
-pub group_length-total-requires : goal.group_length-total-requires
-group_length-total-requires c = (c.requires.0, c.loop-m-test.true)
+loop-m-init c = (groups_none (grammar_of c.args.s.now), record { each = λ k l. absurd (omega arith) })
 
 pub overflow_add-total : goal.overflow_add-total
 overflow_add-total c =
     let a = c.args in
     let l = c.loop-m in
-    omega (arith, groups_inside (grammar_of a.s.now) l.m a.j.n c.loop-m-test.true, l.invariant.1, c.group_length-total.ensures, groups_bound c.requires.0)
-
-pub overflow_add-m : goal.overflow_add-m
-overflow_add-m c = omega (arith, c.requires.0.job.short)
+    omega (arith, groups_inside (grammar_of a.s.now) l.m a.j.n (omega arith), l.invariant.0, c.group_length-total.ensures, groups_bound c.requires.0)
 
 pub loop-m-preserved : goal.loop-m-preserved
 loop-m-preserved c =
     let g = grammar_of c.args.s.now in
     let l = c.loop-m in
-    (omega arith, omega (arith, groups_more g l.m, l.invariant.1, c.group_length-total.ensures), offset_more g l.m l.offsets l.total (omega (arith, c.requires.0.job.short)) l.invariant.1 l.invariant.2, simp length-set l.invariant.3)
+    (omega (arith, groups_more g l.m, l.invariant.0, c.group_length-total.ensures), offset_more g l.m l.offsets l.total (omega (arith, c.requires.0.job.short)) l.invariant.0 l.invariant.1)
 
 pub returns : goal.returns
 returns c =
@@ -42,4 +29,4 @@ returns c =
     let g = grammar_of a.s.now in
     let l = c.loop-m in
     let e : l.m ≡ a.j.n + 1 = omega arith in
-    (l.invariant.1 ∙ ap (λ (z : ℕ). length (groups g z)) e, subst (λ (z : ℕ). Offsets g z l.offsets) e l.invariant.2)
+    (l.invariant.0 ∙ ap (λ (z : ℕ). length (groups g z)) e, subst (λ (z : ℕ). Offsets g z l.offsets) e l.invariant.1)

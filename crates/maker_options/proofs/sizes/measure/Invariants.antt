@@ -1,4 +1,3 @@
-use Prim.Native.Nat.{◌+◌, ◌≤◌, ◌-◌}
 use mathlib.Core.Path.{◌≡◌}
 use lib.ListN.{length}
 use Rattle.paper.specs.Sheet.{grammar_of}
@@ -8,7 +7,4 @@ use Rattle.maker_options.proofs.sizes.measure.Given as goal
 
 -- the groups below m are counted, and each one's start is noted
 abbrev pub invariant-loop-m : goal.invariant-loop-m
-invariant-loop-m l = (l.m ≤ l.j.n + 1) × (l.total ≡ length (groups (grammar_of l.s) l.m)) × Offsets (grammar_of l.s) l.m l.offsets × (length l.offsets ≡ length l.initial.offsets)
-
-abbrev pub decreases-loop-m : goal.decreases-loop-m
-decreases-loop-m l = l.j.n + 1 - l.m
+invariant-loop-m l = (l.total ≡ length (groups (grammar_of l.s) l.m)) × Offsets (grammar_of l.s) l.m l.offsets
