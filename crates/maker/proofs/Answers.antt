@@ -28,7 +28,6 @@ use Rattle.sheet.specs.declared.Made.TheVariants.{Written, Refused}
 use Rattle.sheet.specs.Told.{told, made}
 use Rattle.sheet.proofs.Good.{good}
 use Rattle.maker_options.specs.Prepared.{Offsets, JobOf}
-use Rattle.maker_groups.specs.Parts.{mark}
 use Rattle.maker.specs.Trailer.{offset_bytes, ending_bytes, trailer_bytes}
 
 -- ---- the trailer, and the whole list
@@ -48,7 +47,7 @@ module _ (g : Grammar) (root n : ℕ) (offsets : List ℕ) (x : Offsets g (n + 1
   offsets_are = rw add-one (gather_same (λ m. offset_bytes offsets m) (λ m. u32 (length (groups g m))) 0 (suc n) (λ k l. ap u32 (x.each k (omega arith))))
 
   trailer_is : trailer_bytes offsets root (length g.rows) n (length (groups g (suc n)) + (4 * n + 20)) ≡ list_trailer g root n
-  unfolding trailer_bytes ending_bytes list_trailer mark u16 u32
+  unfolding trailer_bytes ending_bytes list_trailer u16 u32
   trailer_is = ap (λ (z : List ℕ). z ++ ending_bytes root (length g.rows) n (length (groups g (suc n)) + (4 * n + 20))) offsets_are
 
   list_is : (p rows : ℕ) → p ≡ length (groups g (n + 1)) → rows ≡ length g.rows → groups g (n + 1) ++ trailer_bytes offsets root rows n (p + (4 * n + 20)) ≡ cut_list g root n

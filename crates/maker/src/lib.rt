@@ -1,7 +1,7 @@
 #![tactic(auto)]
 
 // The maker of cut lists.
-ghost use Rattle.std.specs.Prelude.{◌+◌, ◌*◌, ◌≤◌, ◌<◌, length};
+ghost use Rattle.std.specs.Prelude.{◌≡◌, ◌+◌, ◌*◌, ◌≤◌, ◌<◌, length};
 ghost use Rattle.paper.specs.Tests.{gather};
 ghost use Rattle.paper.specs.Refusals.{Accepted};
 ghost use Rattle.paper.specs.Promises.{Makes};
@@ -10,20 +10,17 @@ ghost use Rattle.sheet.specs.Told.{made};
 ghost use Rattle.maker_options.specs.Prepared.{JobOf};
 ghost use Rattle.maker.specs.Trailer.{offset_bytes, ending_bytes, trailer_bytes};
 
-use maker_groups::bytes;
 use maker_options::{Job, ready, sizes};
 use sheet::Made;
 
-// The offsets of the groups 0 to n at o.
-fn put_offsets(list: &mut [u8], o: usize, offsets: &[usize], n: usize) -> usize
-    requires { (n < length offsets.now) × (o + 4 * (n + 1) ≤ length list.old) }
-    ensures { Put (gather 0 (n + 1) (offset_bytes offsets.now)) o list.old list.new result }
+// The groups' offsets at o.
+fn put_offsets(list: &mut [u8], o: usize, offsets: &[usize]) -> usize
+    requires { o + 4 * length offsets.now ≤ length list.old }
+    ensures { Put (gather 0 (length offsets.now) (offset_bytes offsets.now)) o list.old list.new result }
 {
     let mut p = o;
-    let mut m = 0;
-    while m <= n {
-        p = numbers::put_u32(list, p, offsets[m]);
-        m += 1;
+    for x in offsets {
+        p = numbers::put_u32(list, p, *x);
     }
     p
 }
@@ -33,20 +30,19 @@ fn put_ending(list: &mut [u8], o: usize, j: Job, root: usize, total: usize) -> u
     requires { (j.n ≤ 60) × (o + 16 ≤ length list.old) }
     ensures { Put (ending_bytes root j.rows.count j.n total) o list.old list.new result }
 {
-    let a = numbers::put_u16(list, o, root);
-    let b = numbers::put_u16(list, a, j.rows.count);
-    let c = numbers::put_pair(list, b, j.n as u8, 0);
-    let d = numbers::put_pair(list, c, 0, 0);
-    let e = numbers::put_u32(list, d, total);
-    bytes::put_mark(list, e)
+    let p = numbers::put_u16(list, o, root);
+    let p = numbers::put_u16(list, p, j.rows.count);
+    let p = numbers::put_bytes(list, p, &[j.n as u8, 0, 0, 0]);
+    let p = numbers::put_u32(list, p, total);
+    numbers::put_bytes(list, p, b"CUT1")
 }
 
 // The trailer at o.
 fn put_trailer(list: &mut [u8], o: usize, offsets: &[usize], j: Job, root: usize) -> usize
-    requires { (j.n ≤ 60) × (61 ≤ length offsets.now) × (o + (4 * j.n + 20) ≤ length list.old) }
+    requires { (j.n ≤ 60) × (length offsets.now ≡ j.n + 1) × (o + (4 * j.n + 20) ≤ length list.old) }
     ensures { Put (trailer_bytes offsets.now root j.rows.count j.n (o + (4 * j.n + 20))) o list.old list.new result }
 {
-    let p = put_offsets(list, o, offsets, j.n);
+    let p = put_offsets(list, o, offsets);
     put_ending(list, p, j, root, o + (4 * j.n + 20))
 }
 
@@ -64,7 +60,7 @@ fn fill(s: &[u8], j: Job, root: usize, list: &mut [u8]) -> Made
         return Made::Refused(sheet::by_number(22));
     }
     let p = maker_groups::put_groups(s, &ws, list, j);
-    put_trailer(list, p, &offsets, j, root);
+    put_trailer(list, p, &offsets[..=j.n], j, root);
     Made::Written(total)
 }
 
