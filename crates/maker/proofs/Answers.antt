@@ -5,8 +5,10 @@ use mathlib.Core.Path.{◌≡◌, refl, sym, ap, ◌∙◌}
 use mathlib.Core.List.{List, ◌++◌}
 use native.Mathlib.Omega.{arith}
 use native.Mathlib.Numerals.{add-one}
-use lib.ListN.{length}
+use lib.ListN.{length, take}
+use Rattle.std.proofs.lemmas.List.{get_or-take}
 use borrow.Author.Tests.{eq-eqb, ne_eqb, lt-ltb, le-ltb, le-leb, lt-leb}
+use Rattle.std.specs.Prelude.{Ok, Err}
 use Rattle.paper.specs.Bytes.{u16, u32}
 use Rattle.paper.specs.Tests.{gather}
 use Rattle.paper.specs.Trailer.{count_of}
@@ -24,13 +26,17 @@ use Rattle.numbers.proofs.Stores.{put_more, put_same, put_written}
 use Rattle.sheet_trailer.specs.declared.Table.{Table}
 use Rattle.sheet_trailer.specs.Tables.{TableOf}
 use Rattle.sheet.specs.declared.Fault.{Fault}
-use Rattle.sheet.specs.declared.Made.TheVariants.{Written, Refused}
 use Rattle.sheet.specs.Told.{told, made}
 use Rattle.sheet.proofs.Good.{good}
+use Rattle.sheet.proofs.Telling.{told_err, made_err}
 use Rattle.maker_options.specs.Prepared.{Offsets, JobOf}
 use Rattle.maker.specs.Trailer.{offset_bytes, ending_bytes, trailer_bytes}
 
 -- ---- the trailer, and the whole list
+
+-- the first offsets, cut off behind the last one that is known
+pub offsets_front : (g : Grammar) (k : ℕ) (offsets : List ℕ) → Offsets g k offsets → Offsets g k (take k offsets)
+offsets_front g k offsets x = record { each = λ m l. get_or-take k offsets m 0 l ∙ x.each m l }
 
 pub offsets_size : (offsets : List ℕ) (m : ℕ) → length (gather 0 m (offset_bytes offsets)) ≡ 4 * m
 unfolding offset_bytes
@@ -85,13 +91,13 @@ module _ (s : List ℕ) (row n space : ℕ) where
 -- ---- what is said, and what is left
 
 module _ (s : List ℕ) (row n : ℕ) (old : List ℕ) where
-  -- a refusal reports its number and changes nothing
-  pub answer_refused : (x : paper.Fault) (f : Fault) → maker_refusal s row n (length old) ≡ x → f ≡ told x → (x.number ≡ 0 → ⊥) → Makes made s row n old (Refused f) old
+  -- a refusal reports its fault and changes nothing
+  pub answer_refused : (x : paper.Fault) {f : Fault} → maker_refusal s row n (length old) ≡ x → Err f ≡ told x → Makes made s row n old (Err f) old
   unfolding maker_says space_after
-  answer_refused x f e t h = record { said = rw (t, e, ne_eqb x.number 0 h); wrote = rw (e, ne_eqb x.number 0 h) }
+  answer_refused x e t = record { said = rw e (made_err x (cut_list (grammar_of s) row n) t); wrote = rw (e, ne_eqb x.number 0 (told_err x t)) }
 
   pub answer_written : (k : ℕ) (now : List ℕ) → maker_refusal s row n (length old) ≡ no_fault → k ≡ length (cut_list (grammar_of s) row n) → now ≡ written (cut_list (grammar_of s) row n) old
-      → Makes made s row n old (Written k) now
+      → Makes made s row n old (Ok k) now
   unfolding maker_says space_after
   answer_written k now e h w = record { said = rw (e, h); wrote = rw e w }
 

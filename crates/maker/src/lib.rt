@@ -11,7 +11,7 @@ ghost use Rattle.maker_options.specs.Prepared.{JobOf};
 ghost use Rattle.maker.specs.Trailer.{offset_bytes, ending_bytes, trailer_bytes};
 
 use maker_options::{Job, ready, sizes};
-use sheet::Made;
+use sheet::Fault;
 
 // The groups' offsets at o.
 fn put_offsets(list: &mut [u8], o: usize, offsets: &[usize]) -> usize
@@ -46,8 +46,8 @@ fn put_trailer(list: &mut [u8], o: usize, offsets: &[usize], j: Job, root: usize
     put_ending(list, p, j, root, o + (4 * j.n + 20))
 }
 
-// 22, or the list, of an accepted sheet, a row of it and a length of at most 60.
-fn fill(s: &[u8], j: Job, root: usize, list: &mut [u8]) -> Made
+// The list of an accepted sheet, a row of it and a length of at most 60, where the space suffices.
+fn fill(s: &[u8], j: Job, root: usize, list: &mut [u8]) -> Result<usize, Fault>
     requires { Accepted s.now × JobOf s.now j × (root < j.rows.count) }
     ensures { Makes made s.now root j.n list.old result list.new }
 {
@@ -57,27 +57,24 @@ fn fill(s: &[u8], j: Job, root: usize, list: &mut [u8]) -> Made
     let end = sizes::measure(s, &ws, j, &mut offsets);
     let total = end + (4 * j.n + 20);
     if list.len() < total {
-        return Made::Refused(sheet::by_number(22));
+        return Err(Fault::List);
     }
     let p = maker_groups::put_groups(s, &ws, list, j);
     put_trailer(list, p, &offsets[..=j.n], j, root);
-    Made::Written(total)
+    Ok(total)
 }
 
 // The cut list of a sheet's row for the length n, at the start of the space lent.
-pub fn make(s: &[u8], row: u64, n: u64, list: &mut [u8]) -> Made
+pub fn make(s: &[u8], row: u64, n: u64, list: &mut [u8]) -> Result<usize, Fault>
     ensures { Makes made s.now row n list.old result list.new }
 {
-    let fault = sheet::check(s);
-    if fault.number != 0 {
-        return Made::Refused(fault);
-    }
+    sheet::check(s)?;
     let rows = sheet_trailer::table_of(s, 2);
     if row >= rows.count as u64 {
-        return Made::Refused(sheet::by_number(20));
+        return Err(Fault::Row);
     }
     if n > 60 {
-        return Made::Refused(sheet::by_number(21));
+        return Err(Fault::Length);
     }
     let j = Job {
         rows,

@@ -1,27 +1,23 @@
-use mathlib.Core.Path.{◌≡◌, sym, ap, ◌∙◌}
 use native.Mathlib.Omega.{arith}
-use Rattle.paper.specs.Refusals as paper
+use Rattle.std.proofs.lemmas.Result.{err_from_is_err_and}
 use Rattle.paper.specs.Refusals.{plain, refusal, latest, Accepted}
-use Rattle.sheet.specs.declared.Fault.{Fault}
-use Rattle.sheet.specs.Told.{told}
+use Rattle.sheet.specs.declared.Fault.TheVariants as case
 use Rattle.sheet.proofs.Good.{good}
+use Rattle.sheet.proofs.Telling.{told_ok, told_err, told_back}
 use Rattle.maker.proofs.Answers.{refused_sheet, refused_row, refused_length, answer_refused, job_is}
-use Rattle.maker.proofs.make.Goals.{Else-fault-ne0}
+use Rattle.maker.proofs.make.Goals.{In_ok-check}
 use Rattle.maker.proofs.make.Goals as goal
 
-number : {f : Fault} {x : paper.Fault} → f ≡ told x → f.number ≡ x.number
-number e = ap (λ (g : Fault). g.number) e
-
 -- no fault was found
-accepted : (p : Else-fault-ne0) → Accepted p.args.s.now
-accepted p = sym (number p.check-fault.ensures) ∙ p.if-fault-ne0.false
+accepted : (p : In_ok-check) → Accepted p.args.s.now
+accepted p = told_ok (refusal latest p.args.s.now) p.in_ok-check.ensures
 
-pub returns-then-fault-ne0 : goal.returns-then-fault-ne0
-returns-then-fault-ne0 c =
+pub returns-in_err-check : goal.returns-in_err-check
+returns-in_err-check c =
     let a = c.args in
-    let e = c.check-fault.ensures in
-    let h : (refusal latest a.s.now).number ≡ 0 → ⊥ = λ z. c.if-fault-ne0.true (number e ∙ z) in
-    answer_refused a.s.now a.row a.n a.list.now (refusal latest a.s.now) _ (refused_sheet a.s.now a.row a.n _ h) e h
+    let x = refusal latest a.s.now in
+    let p = err_from_is_err_and c.from_residual.result c.from_residual.ensures.1 in
+    rw (p.1, p.2) (answer_refused a.s.now a.row a.n a.list.now x (refused_sheet a.s.now a.row a.n _ (told_err x c.in_err-check.ensures)) c.in_err-check.ensures)
 
 pub table_of-rows-requires : goal.table_of-rows-requires
 table_of-rows-requires c = ((good latest _ (omega arith) (accepted c)).trailed, omega arith)
@@ -30,15 +26,16 @@ pub returns-then-row-rows : goal.returns-then-row-rows
 returns-then-row-rows c =
     let a = c.args in
     let few = c.table_of-rows.ensures.0.counts in
-    answer_refused a.s.now a.row a.n a.list.now (plain 20) _ (refused_row a.s.now a.row a.n _ (accepted (goal.at.returns-then-row-rows c).Else-fault-ne0) (omega arith)) c.by_number.ensures (λ e. omega arith)
+    answer_refused a.s.now a.row a.n a.list.now (plain 20) (refused_row a.s.now a.row a.n _ (accepted (goal.at.returns-then-row-rows c).In_ok-check) (omega arith)) (told_back case.Row)
 
 pub returns-then-n-gt60 : goal.returns-then-n-gt60
 returns-then-n-gt60 c =
     let a = c.args in
     let few = c.table_of-rows.ensures.0.counts in
-    answer_refused a.s.now a.row a.n a.list.now (plain 21) _ (refused_length a.s.now a.row a.n _ (accepted (goal.at.returns-then-n-gt60 c).Else-fault-ne0) (omega arith) (omega arith)) c.by_number-then-n-gt60.ensures (λ e. omega arith)
+    answer_refused a.s.now a.row a.n a.list.now (plain 21) (refused_length a.s.now a.row a.n _ (accepted (goal.at.returns-then-n-gt60 c).In_ok-check) (omega arith) (omega arith)) (told_back case.Length)
 
 pub fill-requires : goal.fill-requires
 fill-requires c =
     let a = c.args in
-    (accepted (goal.at.fill-requires c).Else-fault-ne0, job_is a.row a.n (accepted (goal.at.fill-requires c).Else-fault-ne0) c.table_of-rows.ensures.0 (omega arith) (omega arith), omega arith)
+    let ok = accepted (goal.at.fill-requires c).In_ok-check in
+    (ok, job_is a.row a.n ok c.table_of-rows.ensures.0 (omega arith) (omega arith), omega arith)

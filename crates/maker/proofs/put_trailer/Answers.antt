@@ -1,6 +1,7 @@
 use Prim.Native.Nat.{ℕ, ◌+◌}
 use mathlib.Core.Path.{ap}
 use native.Mathlib.Omega.{arith}
+use lib.ListN.{length}
 use Rattle.paper.specs.Tests.{gather}
 use Rattle.numbers.proofs.Stores.{put_more, put_same}
 use Rattle.maker.specs.Trailer.{offset_bytes, trailer_bytes}
@@ -10,7 +11,7 @@ use Rattle.maker.proofs.put_trailer.Goals as goal
 pub put_ending-requires : goal.put_ending-requires
 put_ending-requires c =
     let a = c.args in
-    (omega arith, omega (arith, offsets_size a.offsets.now (a.j.n + 1), c.put_offsets-p.ensures.stop, offsets_size a.offsets.now _))
+    (omega arith, omega (arith, offsets_size a.offsets.now (length a.offsets.now), c.put_offsets-p.ensures.stop))
 
 pub returns : goal.returns
 unfolding trailer_bytes
