@@ -4,3 +4,4 @@ pub mod Bits
 pub mod Room
 pub mod Places
 pub mod Scan
+pub mod Where

@@ -2,11 +2,12 @@
 
 // The lent workspace: a bit for each row (0 to 255) and each span of a term, four words a span.
 // The same words and bits serve for a set of rows (four words) and for a set of rows a row (1,024 words).
-ghost use Rattle.std.specs.Prelude.{◌≡◌, ◌+◌, ◌*◌, ◌≤◌, ◌<◌, length};
+ghost use Rattle.std.specs.Prelude.{◌≡◌, ℕ, ◌+◌, ◌*◌, ◌≤◌, ◌<◌, length};
 ghost use Rattle.paper.specs.Answers.{words, zeroed};
 ghost use Rattle.workspace.specs.Spans.{span_at};
 ghost use Rattle.workspace.specs.Bits.{bit_at, set_bit, put_bit, four_at, wiped, copied, joined, none_at};
 ghost use Rattle.workspace.specs.Room.{Grows};
+ghost use Rattle.workspace.specs.Where.{PutWhere};
 ghost use Rattle.workspace.specs.Scan.{in_both, FirstOf};
 
 // The number of the span of m places from place i on.
@@ -42,6 +43,16 @@ pub fn put(ws: &mut [u64], s: usize, r: usize, on: bool)
 {
     if on {
         set(ws, s, r);
+    }
+}
+
+// The rows below n that pass the test, into span s.
+pub fn put_where<F: Fn(usize) -> bool>(ws: &mut [u64], s: usize, n: usize, test: F)
+    requires { (4 * s + 4 ≤ length ws.old) × (n ≤ 256) × ((q : ℕ) → q < n → F.pre test q) }
+    ensures { PutWhere (F.post test) s n ws.old ws.new }
+{
+    for q in 0..n {
+        put(ws, s, q, test(q));
     }
 }
 
