@@ -1,13 +1,14 @@
 -- What a move says and leaves: each refusal, and the sheet written.
 -- Assumes nothing.
 use Prim.Native.Nat.{ℕ, ◌≤◌, ◌<◌}
-use mathlib.Core.Path.{◌≡◌, refl, sym, ap, subst, ◌∙◌}
+use mathlib.Core.Path.{◌≡◌, refl, subst, ◌∙◌}
 use mathlib.Core.Bool.{Bool, true, false, cond}
 use mathlib.Core.List.{List}
 use native.Mathlib.Omega.{arith}
 use lib.Dec.{leb, eqb}
 use lib.ListN.{length}
 use borrow.Author.Tests.{eq-eqb, ne_eqb, le-leb, lt-leb, eqb-true, eqb-false, leb-true}
+use Rattle.std.specs.Prelude.{Result, Ok, Err}
 use Rattle.paper.specs.Rules.{no_rule}
 use Rattle.paper.specs.Trailer.{rules_of}
 use Rattle.paper.specs.Refusals as paper
@@ -16,26 +17,22 @@ use Rattle.paper.specs.Answers.{written}
 use Rattle.paper.specs.Editions.{Move, ToSecond, ToFirst, from, to, in_edition, only, room_refusal, move_refusal, move_says, move_leaves}
 use Rattle.paper.specs.Promises.{Moves}
 use Rattle.sheet.specs.declared.Fault.{Fault}
-use Rattle.sheet.specs.declared.Made.{Made}
-use Rattle.sheet.specs.declared.Made.TheVariants.{Written, Refused}
+use Rattle.sheet.specs.declared.Fault.TheVariants.{Rule, Space}
 use Rattle.sheet.specs.Told.{told, made}
 use Rattle.sheet.proofs.Good.{pass, heads}
+use Rattle.sheet.proofs.Telling.{told_back, told_err, made_err}
 use Rattle.editions.specs.Puts.{Puts}
 use Rattle.editions.specs.Movable.{Movable}
 use Rattle.editions.proofs.Moved.{moved_length}
 use Rattle.editions.proofs.Same.{only_accepted, accepted_only, base_most}
 
--- no fault is told of a sheet with none
-pub none_told : {f : Fault} (x : paper.Fault) → f ≡ told x → f.number ≡ 0 → x.number ≡ 0
-none_told x t e = sym (ap (λ (g : Fault). g.number) t) ∙ e
-
 -- ---- the sheet in edition e, or 41
 
 module _ (e : ℕ) (s old : List ℕ) where
-  pub puts_refused : (f : Fault) → f ≡ told (plain 41) → length old < length (in_edition e s) → Puts e s old (Refused f) old
-  puts_refused f t h = record { said = rw (t, lt-leb _ _ h); wrote = rw (lt-leb _ _ h) }
+  pub puts_refused : length old < length (in_edition e s) → Puts e s old (Err Space) old
+  puts_refused h = record { said = rw (lt-leb _ _ h) (made_err (plain 41) (in_edition e s) (told_back Space)); wrote = rw (lt-leb _ _ h) }
 
-  pub puts_written : (k : ℕ) (now : List ℕ) → length (in_edition e s) ≤ length old → k ≡ length (in_edition e s) → now ≡ written (in_edition e s) old → Puts e s old (Written k) now
+  pub puts_written : (k : ℕ) (now : List ℕ) → length (in_edition e s) ≤ length old → k ≡ length (in_edition e s) → now ≡ written (in_edition e s) old → Puts e s old (Ok k) now
   puts_written k now h n w = record { said = rw (le-leb _ _ h, n); wrote = rw (le-leb _ _ h) w }
 
 -- ---- the numbers
@@ -91,18 +88,16 @@ movable_none m s space p =
 
 module _ (m : Move) (s old : List ℕ) where
   -- a refusal reports its number and changes nothing
-  refuses : (x : paper.Fault) (f : Fault) → move_refusal m s (length old) ≡ x → f ≡ told x → (x.number ≡ 0 → ⊥) → Moves made m s old (Refused f) old
+  refuses : (x : paper.Fault) (f : Fault) → move_refusal m s (length old) ≡ x → Err f ≡ told x → Moves made m s old (Err f) old
   unfolding move_says move_leaves
-  refuses x f e t h = record { said = rw (t, e, ne_eqb x.number 0 h); wrote = rw (e, ne_eqb x.number 0 h) }
+  refuses x f e t = record { said = rw e (made_err x (in_edition (to m) s) t); wrote = rw (e, ne_eqb x.number 0 (told_err x t)) }
 
-  pub refuses_sheet : (f : Fault) → f ≡ told (refusal (only (from m)) s) → (f.number ≡ 0 → ⊥) → Moves made m s old (Refused f) old
-  refuses_sheet f t h =
-      let k : (refusal (only (from m)) s).number ≡ 0 → ⊥ = λ z. h (ap (λ (g : Fault). g.number) t ∙ z) in
-      refuses (refusal (only (from m)) s) f (refused_sheet m s (length old) k) t k
+  pub refuses_sheet : (f : Fault) → Err f ≡ told (refusal (only (from m)) s) → Moves made m s old (Err f) old
+  refuses_sheet f t = refuses (refusal (only (from m)) s) f (refused_sheet m s (length old) (told_err (refusal (only (from m)) s) t)) t
 
-  pub refuses_rule : (f : Fault) → f ≡ told (plain 40) → (refusal (only (from m)) s).number ≡ 0 → no_rule (rules_of s) ≡ false → Moves made m s old (Refused f) old
-  refuses_rule f t a r = refuses (plain 40) f (refused_rule m s (length old) a r) t (λ z. omega arith)
+  pub refuses_rule : (refusal (only (from m)) s).number ≡ 0 → no_rule (rules_of s) ≡ false → Moves made m s old (Err Rule) old
+  refuses_rule a r = refuses (plain 40) Rule (refused_rule m s (length old) a r) (told_back Rule)
 
-  pub moves_put : (r : Made) (now : List ℕ) → (refusal (only (from m)) s).number ≡ 0 → no_rule (rules_of s) ≡ true → Puts (to m) s old r now → Moves made m s old r now
+  pub moves_put : (r : Result ℕ Fault) (now : List ℕ) → (refusal (only (from m)) s).number ≡ 0 → no_rule (rules_of s) ≡ true → Puts (to m) s old r now → Moves made m s old r now
   unfolding move_says move_leaves
   moves_put r now a n p = record { said = rw (room_left m s (length old) a n) p.said; wrote = rw (room_left m s (length old) a n) p.wrote }

@@ -3,14 +3,15 @@
 // Sheets moved between editions.
 ghost use Rattle.std.specs.Prelude.{◌≡◌, ◌+◌, ◌≤◌, length};
 ghost use Rattle.paper.specs.Answers.{written};
-ghost use Rattle.paper.specs.Editions.{ToSecond, ToFirst, zeros, in_edition};
+ghost use Rattle.paper.specs.Editions.{ToSecond, ToFirst, from, to, zeros, in_edition};
 ghost use Rattle.paper.specs.Promises.{Moves};
 ghost use Rattle.numbers.specs.Put.{Put};
 ghost use Rattle.sheet.specs.Told.{made};
 ghost use Rattle.sheet.specs.Good.{Good};
-ghost use Rattle.editions.specs.Puts.{ending, Puts};
+ghost use Rattle.editions.specs.Puts.{ending, moving, Puts};
 
-use sheet::{Made, Takes};
+use sheet::{Fault, Takes};
+use sheet_trailer::trailer_size;
 
 // The new bytes of edition e at o, all zero: the first edition has none.
 fn put_zeros(out: &mut [u8], o: usize, e: usize) -> usize
@@ -29,8 +30,7 @@ fn put_ending(out: &mut [u8], o: usize, total: usize, e: usize) -> usize
     ensures { Put (ending total e) o out.old out.new result }
 {
     let t = numbers::put_u32(out, o, total);
-    let m = numbers::put_pair(out, t, b'P', b'R');
-    numbers::put_pair(out, m, b'M', (48 + e) as u8)
+    numbers::put_bytes(out, t, &[b'P', b'R', b'M', 48 + e as u8])
 }
 
 // The sheet in edition e at the start of the space.
@@ -41,57 +41,49 @@ fn put_sheet(s: &[u8], e: usize, out: &mut [u8])
     let at = sheet_trailer::base(s);
     let p = numbers::put_bytes(out, 0, &s[..at + 24]);
     let z = put_zeros(out, p, e);
-    put_ending(out, z, at + (28 + 4 * e), e);
+    put_ending(out, z, at + trailer_size(e), e);
 }
 
-// 41, or the sheet in edition e.
-fn put(s: &[u8], e: usize, out: &mut [u8]) -> Made
+// The sheet in edition e and its length, where there is room.
+fn put(s: &[u8], e: usize, out: &mut [u8]) -> Result<usize, Fault>
     requires { Good s.now × (1 ≤ e) × (e ≤ 2) }
     ensures { Puts e s.now out.old result out.new }
 {
-    let total = sheet_trailer::base(s) + (28 + 4 * e);
+    let total = sheet_trailer::base(s) + trailer_size(e);
     if out.len() < total {
-        return Made::Refused(sheet::by_number(41));
+        return Err(Fault::Space);
     }
     put_sheet(s, e, out);
-    Made::Written(total)
+    Ok(total)
+}
+
+// A sheet of the edition `given`, with no rule, in the edition `wanted`, at the start of the space lent.
+fn to_edition(sheet: &[u8], given: usize, wanted: usize, out: &mut [u8]) -> Result<usize, Fault>
+    requires { (given ≡ from (moving wanted)) × (wanted ≡ to (moving wanted)) }
+    ensures { Moves made (moving wanted) sheet.now out.old result out.new }
+{
+    let takes = Takes {
+        first: given,
+        last: given,
+        bytes: sheet::MOST,
+    };
+    sheet::first_fault(sheet, takes)?;
+    if !sheet_trailer::no_rule(sheet) {
+        return Err(Fault::Rule);
+    }
+    put(sheet, wanted, out)
 }
 
 // A `PRM1` sheet as a `PRM2` sheet, all four new bytes zero, at the start of the space lent.
-pub fn to_second(sheet: &[u8], out: &mut [u8]) -> Made
+pub fn to_second(sheet: &[u8], out: &mut [u8]) -> Result<usize, Fault>
     ensures { Moves made ToSecond sheet.now out.old result out.new }
 {
-    let fault = sheet::first_fault(
-        sheet,
-        Takes {
-            first: 1,
-            last: 1,
-            bytes: sheet::MOST,
-        },
-    );
-    if fault.number != 0 {
-        return Made::Refused(fault);
-    }
-    put(sheet, 2, out)
+    to_edition(sheet, 1, 2, out)
 }
 
 // A `PRM2` sheet whose rules are zero as a `PRM1` sheet, at the start of the space lent.
-pub fn to_first(sheet: &[u8], out: &mut [u8]) -> Made
+pub fn to_first(sheet: &[u8], out: &mut [u8]) -> Result<usize, Fault>
     ensures { Moves made ToFirst sheet.now out.old result out.new }
 {
-    let fault = sheet::first_fault(
-        sheet,
-        Takes {
-            first: 2,
-            last: 2,
-            bytes: sheet::MOST,
-        },
-    );
-    if fault.number != 0 {
-        return Made::Refused(fault);
-    }
-    if !sheet_trailer::no_rule(sheet) {
-        return Made::Refused(sheet::by_number(40));
-    }
-    put(sheet, 1, out)
+    to_edition(sheet, 2, 1, out)
 }

@@ -2,40 +2,46 @@
 
 // A sheet's trailer: its edition, its fields by name, its rules, and the faults 12 to 15.
 ghost use Rattle.std.specs.Prelude.{◌≡◌, ◌+◌, ◌≤◌, ◌<◌, length};
-ghost use Rattle.paper.specs.Trailer.{edition, base, field, shortest, longest, count_of, new_byte, rules_of, mark_ok, total_ok, lengths_ok, rules_ok, count_ok, offsets_ok};
+ghost use Rattle.paper.specs.Trailer.{edition, trailer_size, base, field, shortest, longest, count_of, new_byte, rules_of, mark_ok, total_ok, lengths_ok, rules_ok, count_ok, offsets_ok};
 ghost use Rattle.paper.specs.Rules as paper;
 ghost use Rattle.sheet_trailer.specs.FirstBad.{FirstBad};
 ghost use Rattle.sheet_trailer.specs.Placed.{Trailed};
 ghost use Rattle.sheet_trailer.specs.Tables.{TableOf};
 
-// A record's bytes, and the least and the greatest count, by table.
+// A record's bytes, by table.
 pub const SIZE: [usize; 5] = [2, 1, 6, 6, 12];
 
-const LEAST: [usize; 5] = [1, 0, 0, 0, 0];
-
-const MOST: [usize; 5] = [8, 1024, 256, 64, 32];
+// The least and the greatest count, by table.
+const COUNTS: [(usize, usize); 5] = [(1, 8), (0, 1024), (0, 256), (0, 64), (0, 32)];
 
 // The edition that the mark names.
+#[tactic(auto, unfolding(paper::specs::Trailer::edition))]
 fn edition(s: &[u8]) -> usize
     requires { 1 ≤ length s.now }
     ensures { (result ≡ «edition» s.now) × (result < 256) }
 {
-    let digit = numbers::wide(s[s.len() - 1]);
-    if digit < 48 {
-        return 0;
-    }
-    digit - 48
+    usize::from(s[s.len() - 1]).saturating_sub(48)
+}
+
+// The bytes of an edition's trailer.
+pub fn trailer_size(e: usize) -> usize
+    requires { e < 256 }
+    ensures { result ≡ «trailer_size» e }
+{
+    28 + 4 * e
 }
 
 // Where the trailer begins.
+#[tactic(auto, unfolding(paper::specs::Trailer::base))]
 pub fn base(s: &[u8]) -> usize
     requires { Trailed s.now }
     ensures { result ≡ «base» s.now }
 {
-    s.len() - (28 + 4 * edition(s))
+    s.len() - trailer_size(edition(s))
 }
 
 // The trailer's field of two bytes with the number k.
+#[tactic(auto, unfolding(paper::specs::Trailer::field, paper::specs::Trailer::base))]
 fn field(s: &[u8], k: usize) -> usize
     requires { Trailed s.now × (k < 12) }
     ensures { (result ≡ «field» s.now k) × (result < 65536) }
@@ -82,17 +88,19 @@ pub fn table_of(s: &[u8], t: usize) -> Table
 }
 
 // Byte k of the four behind the table fields; 0 in the edition that has none.
-fn new_byte(s: &[u8], k: usize) -> usize
+#[tactic(auto, unfolding(paper::specs::Trailer::new_byte, paper::specs::Trailer::base))]
+fn new_byte(s: &[u8], k: usize) -> u8
     requires { Trailed s.now × (k < 4) }
-    ensures { (result ≡ new_byte s.now k) × (result < 256) }
+    ensures { result ≡ new_byte s.now k }
 {
     if edition(s) < 2 {
         return 0;
     }
-    numbers::wide(s[base(s) + 24 + k])
+    s[base(s) + 24 + k]
 }
 
 // A cut off the end of v is shortened.
+#[tactic(auto, unfolding(paper::specs::Trailer::rules_of))]
 pub fn shortens(s: &[u8]) -> bool
     requires { Trailed s.now }
     ensures { result ≡ paper.shortens (rules_of s.now) }
@@ -101,57 +109,41 @@ pub fn shortens(s: &[u8]) -> bool
 }
 
 // Every rule is 0.
+#[tactic(auto, unfolding(paper::specs::Rules::no_rule, paper::specs::Trailer::rules_of))]
 pub fn no_rule(s: &[u8]) -> bool
     requires { Trailed s.now }
     ensures { result ≡ paper.no_rule (rules_of s.now) }
 {
-    if new_byte(s, 0) != 0 {
-        return false;
-    }
-    new_byte(s, 1) == 0
+    new_byte(s, 0) == 0 && new_byte(s, 1) == 0
 }
 
+#[tactic(auto, unfolding(paper::specs::Trailer::rules_ok))]
 pub fn rules_ok(s: &[u8]) -> bool
     requires { Trailed s.now }
     ensures { result ≡ rules_ok s.now }
 {
-    if new_byte(s, 0) > 1 {
-        return false;
-    }
-    if new_byte(s, 1) != 0 {
-        return false;
-    }
-    if new_byte(s, 2) != 0 {
-        return false;
-    }
-    new_byte(s, 3) == 0
+    new_byte(s, 0) <= 1 && new_byte(s, 1) == 0 && new_byte(s, 2) == 0 && new_byte(s, 3) == 0
 }
 
 // The mark is that of an edition from `first` to `last`.
+#[tactic(auto, unfolding(paper::specs::Trailer::mark_ok))]
 pub fn mark_ok(s: &[u8], first: usize, last: usize) -> bool
     requires { (32 ≤ length s.now) × (last < 10) }
     ensures { result ≡ mark_ok first last s.now }
 {
     let e = edition(s);
-    if e < first {
-        return false;
-    }
-    if e > last {
-        return false;
-    }
-    numbers::mark_at(s, s.len() - 4, b'P', b'R', b'M', (48 + e) as u8)
+    first <= e && e <= last && numbers::mark_at(s, s.len() - 4, b'P', b'R', b'M', 48 + e as u8)
 }
 
+#[tactic(auto, unfolding(paper::specs::Trailer::total_ok))]
 pub fn total_ok(s: &[u8]) -> bool
     requires { 32 ≤ length s.now }
     ensures { result ≡ total_ok s.now }
 {
-    if s.len() < 28 + 4 * edition(s) {
-        return false;
-    }
-    numbers::u32_at(s, s.len() - 8) == s.len()
+    trailer_size(edition(s)) <= s.len() && numbers::u32_at(s, s.len() - 8) == s.len()
 }
 
+#[tactic(auto, unfolding(paper::specs::Trailer::lengths_ok))]
 pub fn lengths_ok(s: &[u8]) -> bool
     requires { Trailed s.now }
     ensures { result ≡ lengths_ok s.now }
@@ -161,12 +153,14 @@ pub fn lengths_ok(s: &[u8]) -> bool
     low <= high && high <= 60
 }
 
+#[tactic(auto, unfolding(paper::specs::Trailer::count_ok))]
 fn count_ok(s: &[u8], t: usize) -> bool
     requires { Trailed s.now × (t < 5) }
     ensures { result ≡ count_ok s.now t }
 {
+    let (least, most) = COUNTS[t];
     let n = count_of(s, t);
-    LEAST[t] <= n && n <= MOST[t]
+    least <= n && n <= most
 }
 
 // The first table whose count is outside its limits.
@@ -178,6 +172,7 @@ pub fn bad_count(s: &[u8]) -> Option<usize>
 }
 
 // The tables lie end to end from 0 up to the trailer.
+#[tactic(auto, using(crate::proofs::Search::fails_none, crate::proofs::Tables::table_most), unfolding(paper::specs::Trailer::offsets_ok, paper::specs::Trailer::offset_ok, paper::specs::Trailer::start_of))]
 pub fn offsets_ok(s: &[u8]) -> bool
     requires { Trailed s.now }
     ensures { result ≡ offsets_ok s.now }

@@ -51,5 +51,5 @@ unfolding in_edition
 returns c =
     let a = c.args in
     let at = c.base-at in
-    let same : take (at.result + 24) a.s.now ++ (zeros a.e ++ ending (at.result + (28 + 4 * a.e)) a.e) ≡ in_edition a.e a.s.now = rw at.ensures in
+    let same : take (at.result + 24) a.s.now ++ (zeros a.e ++ ending (at.result + c.trailer_size.result) a.e) ≡ in_edition a.e a.s.now = rw (c.trailer_size.ensures, at.ensures) in
     put_written c.requires.3 (put_same same (put_more c.put_bytes-p.ensures (put_more c.put_zeros-z.ensures c.put_ending.ensures)))
