@@ -1,6 +1,8 @@
 #![tactic(auto)]
 
 // A sheet's first fault, and the readers of an accepted sheet.
+mod accepted;
+
 ghost use Rattle.std.specs.Prelude.{◌≡◌, ◌&&◌, ◌+◌, ◌≤◌, ◌<◌, leb, length};
 ghost use Rattle.paper.specs.Bytes.{u8_at};
 ghost use Rattle.paper.specs.Refusals.{content_refusal, table_refusal, refusal};
@@ -12,6 +14,7 @@ ghost use Rattle.sheet.specs.Told.{worded, told, taken};
 ghost use Rattle.sheet.specs.Good.{Good};
 ghost use Rattle.sheet.specs.Readers.{RowRead, PartRead, AssertionRead};
 
+pub use accepted::Sheet;
 use sheet_contents::{Assertion, Part, Row};
 use sheet_trailer::Table;
 
