@@ -1,13 +1,17 @@
 -- Bytes stored one part behind the other.
 -- Assumes nothing.
-use Prim.Native.Nat.{ℕ, suc, ◌+◌, ◌≤◌, ◌<◌}
-use mathlib.Core.Path.{◌≡◌, refl, sym, ◌∙◌, subst}
-use mathlib.Core.List.{List, [], ◌∷◌, ◌++◌}
+use Prim.Native.Nat.{ℕ, suc, ◌+◌, ◌-◌, ◌/◌, ◌%◌, ◌≤◌}
+use mathlib.Core.Path.{◌≡◌, refl, sym, ap, ◌∙◌, subst}
+use mathlib.Core.List.{List, [], ◌∷◌, ◌++◌, append_assoc}
 use native.Mathlib.Omega.{arith}
 use native.Mathlib.Numerals.{add-one}
 use native.Mathlib.Nat.{add-zero, zero-add, add-suc, suc-add}
-use lib.ListN.{length, take, get_or, set, length-append}
-use lib.Seq.{sets, sets-eq, take-suc, length-take-le}
+use lib.ListN.{length, take, drop, set, length-append}
+use lib.Seq.{sets, sets-eq}
+use borrow.Rule.Slice.PartMut.{put_mid, Post-is}
+use Rattle.std.specs.Int.{to_le_bytes}
+use Rattle.std.proofs.Common.{w16, w32}
+use Rattle.paper.specs.Bytes.{u16, u32}
 use Rattle.paper.specs.Answers.{written}
 use Rattle.numbers.specs.Put.{Put}
 
@@ -33,12 +37,30 @@ put_same {o = o} {e = e} {a = a} {b = b} h f = subst (λ (z : List ℕ). Put z o
 pub put_pair : (l : List ℕ) (o x y : ℕ) → Put (x ∷ y ∷ []) o l (set (set l o x) (o + 1) y) (o + 2)
 put_pair l o x y = record { bytes = rw add-one; stop = refl }
 
--- one byte more of x
-pub put_next : {l now : List ℕ} {o e : ℕ} (x : List ℕ) (i : ℕ) → i < length x → Put (take i x) o l now e → Put (take (i + 1) x) o l (set now (o + i) (get_or x i 0)) (o + (i + 1))
-put_next {now = now} {o = o} x i h f =
-    let n : length (take i x) ≡ i = length-take-le i x (omega arith) in
-    let e : take i x ++ (get_or x i 0 ∷ []) ≡ take (i + 1) x = rw add-one (sym (take-suc x i 0 h)) in
-    put_same e (put_more {x = take i x} {y = get_or x i 0 ∷ []} {p = o + i} (record { bytes = f.bytes; stop = rw n }) (record { bytes = refl; stop = omega arith }))
+-- x copied over the part from o on
+pub put_over : (l x : List ℕ) (o : ℕ) → o + length x ≤ length l → Put x o l (put_mid o (o + length x - o) l x) (o + length x)
+put_over l x o h = record {
+  bytes = ap (λ (z : List ℕ). take o l ++ (x ++ z)) (Post-is o (o + length x) l (omega arith)) ∙ sym (append_assoc (take o l) x (drop (o + length x) l)) ∙ sym (sets-eq x l o h);
+  stop = refl;
+}
+
+-- a number's bytes, as the library has them
+
+pub two_bytes : (x : ℕ) → to_le_bytes w16 (x % 65536) ≡ u16 x
+unfolding u16
+two_bytes x =
+    let a : x % 65536 % 256 ≡ x % 256 = omega arith in
+    let b : x % 65536 / 256 % 256 ≡ x / 256 % 256 = omega arith in
+    rw (a, b) refl
+
+pub four_bytes : (x : ℕ) → to_le_bytes w32 (x % 4294967296) ≡ u32 x
+unfolding u32 u16
+four_bytes x =
+    let a : x % 4294967296 % 256 ≡ x % 65536 % 256 = omega arith in
+    let b : x % 4294967296 / 256 % 256 ≡ x % 65536 / 256 % 256 = omega arith in
+    let c : x % 4294967296 / 65536 % 256 ≡ x / 65536 % 256 = omega arith in
+    let d : x % 4294967296 / 16777216 % 256 ≡ x / 65536 / 256 % 256 = omega arith in
+    rw (a, b, c, d) refl
 
 -- from the start on, a list is written over a buffer
 pub put_written : {w l now : List ℕ} {e : ℕ} → length w ≤ length l → Put w 0 l now e → now ≡ written w l

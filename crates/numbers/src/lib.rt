@@ -1,7 +1,7 @@
 // Numbers and marks in a run of bytes, as sheets and cut lists have them: read, and written.
 #![tactic(auto)]
 
-ghost use Rattle.std.specs.Prelude.{◌≡◌, [], ◌∷◌, ◌+◌, ◌≤◌, ◌<◌, length};
+ghost use Rattle.std.specs.Prelude.{◌≡◌, [], ◌∷◌, ◌+◌, ◌≤◌, ◌<◌, length, slice_index};
 ghost use Rattle.paper.specs.Bytes.{u16_at, u32_at, mark_at, u16, u32};
 ghost use Rattle.numbers.specs.Put.{Put};
 
@@ -16,7 +16,7 @@ pub fn u16_at(s: &[u8], o: usize) -> usize
     requires { o + 2 ≤ length s.now }
     ensures { (result ≡ u16_at s.now o) × (result < 65536) }
 {
-    wide(s[o]) + 256 * wide(s[o + 1])
+    usize::from(u16::from_le_bytes([s[o], s[o + 1]]))
 }
 
 // The number of four bytes at o.
@@ -24,24 +24,15 @@ pub fn u32_at(s: &[u8], o: usize) -> usize
     requires { o + 4 ≤ length s.now }
     ensures { (result ≡ u32_at s.now o) × (result < 4294967296) }
 {
-    u16_at(s, o) + 65536 * u16_at(s, o + 2)
+    u32::from_le_bytes([s[o], s[o + 1], s[o + 2], s[o + 3]]) as usize
 }
 
-// The four bytes at o are these.
-pub fn mark_at(s: &[u8], o: usize, a: u8, b: u8, c: u8, d: u8) -> bool
+// The four bytes at o are those of the mark.
+pub fn mark_at(s: &[u8], o: usize, mark: &[u8; 4]) -> bool
     requires { o + 4 ≤ length s.now }
-    ensures { result ≡ mark_at s.now o a b c d }
+    ensures { result ≡ mark_at s.now o (slice_index mark.now 0) (slice_index mark.now 1) (slice_index mark.now 2) (slice_index mark.now 3) }
 {
-    if s[o] != a {
-        return false;
-    }
-    if s[o + 1] != b {
-        return false;
-    }
-    if s[o + 2] != c {
-        return false;
-    }
-    s[o + 3] == d
+    s[o..o + 4] == mark[..]
 }
 
 // Two bytes at o. Each writer hands back where it ended.
@@ -59,7 +50,7 @@ pub fn put_u16(list: &mut [u8], o: usize, x: usize) -> usize
     requires { o + 2 ≤ length list.old }
     ensures { Put (u16 x) o list.old list.new result × (result ≡ o + 2) }
 {
-    put_pair(list, o, (x % 256) as u8, (x / 256 % 256) as u8)
+    put_bytes(list, o, &((x % 65536) as u16).to_le_bytes())
 }
 
 // A number's four bytes at o.
@@ -67,8 +58,7 @@ pub fn put_u32(list: &mut [u8], o: usize, x: usize) -> usize
     requires { o + 4 ≤ length list.old }
     ensures { Put (u32 x) o list.old list.new result × (result ≡ o + 4) }
 {
-    let p = put_u16(list, o, x % 65536);
-    put_u16(list, p, x / 65536)
+    put_bytes(list, o, &((x % 4294967296) as u32).to_le_bytes())
 }
 
 // The bytes x at o.
@@ -76,10 +66,7 @@ pub fn put_bytes(list: &mut [u8], o: usize, x: &[u8]) -> usize
     requires { o + length x.now ≤ length list.old }
     ensures { Put x.now o list.old list.new result }
 {
-    let mut i: usize = 0;
-    while i < x.len() {
-        list[o + i] = x[i];
-        i += 1;
-    }
-    o + i
+    let end = o + x.len();
+    list[o..end].copy_from_slice(x);
+    end
 }

@@ -1,17 +1,5 @@
-use mathlib.Core.Path.{refl}
-use native.Mathlib.Omega.{arith}
-use lib.ListN.{length-set}
-use lib.Seq.{take_all}
-use Rattle.numbers.proofs.Stores.{put_next, put_same}
+use Rattle.numbers.proofs.Stores.{put_over}
 use Rattle.numbers.proofs.put_bytes.Goals as goal
 
-pub loop-i-init : goal.loop-i-init
-loop-i-init c = (record { bytes = refl; stop = omega arith }, omega arith, refl)
-
-pub loop-i-preserved : goal.loop-i-preserved
-loop-i-preserved c =
-    let l = c.loop-i in
-    (put_next c.args.x.now l.i (omega arith) l.invariant.0, omega arith, simp length-set l.invariant.2)
-
 pub returns : goal.returns
-returns c = put_same (take_all c.loop-i.i _ (omega arith)) c.loop-i.invariant.0
+returns c = rw c.copy_from_slice.ensures.after (put_over c.args.list.now c.args.x.now c.args.o c.requires)

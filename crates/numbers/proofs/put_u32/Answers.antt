@@ -1,8 +1,6 @@
-use Rattle.paper.specs.Bytes.{u32}
-use Rattle.numbers.proofs.Stores.{put_more}
-use borrow.Author.Rules.{rules}
+use mathlib.Core.Path.{◌∙◌}
+use Rattle.numbers.proofs.Stores.{put_same, four_bytes}
 use Rattle.numbers.proofs.put_u32.Goals as goal
 
 pub returns : goal.returns
-unfolding u32
-returns c = (put_more c.put_u16-p.ensures.0 c.put_u16.ensures.0, search rules)
+returns c = (put_same (c.to_le_bytes.ensures ∙ four_bytes c.args.x) c.put_bytes.ensures, rw c.to_le_bytes.ensures at c.put_bytes.ensures.stop)
