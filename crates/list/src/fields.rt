@@ -10,7 +10,7 @@ fn mark_ok(list: &[u8]) -> bool
     requires { 20 ≤ length list.now }
     ensures { result ≡ mark_at list.now (length list.now - 4) 67 85 84 49 }
 {
-    numbers::mark_at(list, list.len() - 4, b'C', b'U', b'T', b'1')
+    numbers::mark_at(list, list.len() - 4, b"CUT1")
 }
 
 // The trailer's numbers are within their limits, and the list has room for it.

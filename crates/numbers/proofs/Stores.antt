@@ -4,7 +4,6 @@ use Prim.Native.Nat.{ℕ, suc, ◌+◌, ◌-◌, ◌/◌, ◌%◌, ◌≤◌}
 use mathlib.Core.Path.{◌≡◌, refl, sym, ap, ◌∙◌, subst}
 use mathlib.Core.List.{List, [], ◌∷◌, ◌++◌, append_assoc}
 use native.Mathlib.Omega.{arith}
-use native.Mathlib.Numerals.{add-one}
 use native.Mathlib.Nat.{add-zero, zero-add, add-suc, suc-add}
 use lib.ListN.{length, take, drop, set, length-append}
 use lib.Seq.{sets, sets-eq}
@@ -33,9 +32,6 @@ put_more {x = x} {y = y} {o = o} {p = p} {a = a} f h = record {
 -- the same bytes, said in another way
 pub put_same : {x y : List ℕ} {o e : ℕ} {a b : List ℕ} → x ≡ y → Put x o a b e → Put y o a b e
 put_same {o = o} {e = e} {a = a} {b = b} h f = subst (λ (z : List ℕ). Put z o a b e) h f
-
-pub put_pair : (l : List ℕ) (o x y : ℕ) → Put (x ∷ y ∷ []) o l (set (set l o x) (o + 1) y) (o + 2)
-put_pair l o x y = record { bytes = rw add-one; stop = refl }
 
 -- x copied over the part from o on
 pub put_over : (l x : List ℕ) (o : ℕ) → o + length x ≤ length l → Put x o l (put_mid o (o + length x - o) l x) (o + length x)

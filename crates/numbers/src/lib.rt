@@ -1,7 +1,7 @@
 // Numbers and marks in a run of bytes, as sheets and cut lists have them: read, and written.
 #![tactic(auto)]
 
-ghost use Rattle.std.specs.Prelude.{◌≡◌, [], ◌∷◌, ◌+◌, ◌≤◌, ◌<◌, length, slice_index};
+ghost use Rattle.std.specs.Prelude.{◌≡◌, ◌+◌, ◌≤◌, ◌<◌, length, slice_index};
 ghost use Rattle.paper.specs.Bytes.{u16_at, u32_at, mark_at, u16, u32};
 ghost use Rattle.numbers.specs.Put.{Put};
 
@@ -35,17 +35,7 @@ pub fn mark_at(s: &[u8], o: usize, mark: &[u8; 4]) -> bool
     s[o..o + 4] == mark[..]
 }
 
-// Two bytes at o. Each writer hands back where it ended.
-pub fn put_pair(list: &mut [u8], o: usize, x: u8, y: u8) -> usize
-    requires { o + 2 ≤ length list.old }
-    ensures { Put (x ∷ y ∷ []) o list.old list.new result }
-{
-    list[o] = x;
-    list[o + 1] = y;
-    o + 2
-}
-
-// A number's two bytes at o.
+// A number's two bytes at o. Each writer hands back where it ended.
 pub fn put_u16(list: &mut [u8], o: usize, x: usize) -> usize
     requires { o + 2 ≤ length list.old }
     ensures { Put (u16 x) o list.old list.new result × (result ≡ o + 2) }

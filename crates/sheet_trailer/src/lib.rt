@@ -132,7 +132,7 @@ pub fn mark_ok(s: &[u8], first: usize, last: usize) -> bool
     ensures { result ≡ mark_ok first last s.now }
 {
     let e = edition(s);
-    first <= e && e <= last && numbers::mark_at(s, s.len() - 4, b'P', b'R', b'M', 48 + e as u8)
+    first <= e && e <= last && numbers::mark_at(s, s.len() - 4, &[b'P', b'R', b'M', 48 + e as u8])
 }
 
 #[tactic(auto, unfolding(paper::specs::Trailer::total_ok))]
