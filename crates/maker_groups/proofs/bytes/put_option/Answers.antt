@@ -9,8 +9,8 @@ unfolding u16 option_bytes
 returns c =
     let fields = put_more (put_more (put_more c.put_bytes-p.ensures c.put_u16-p.ensures.0) c.put_u16-p-2.ensures.0) c.put_u16.ensures.0 in
     elim c.match-x.branch [
-      in-Byte w ↦ rw w.in-Byte.is (rw w.kind-is at fields)
-    | in-Stretch w ↦ rw w.in-Stretch.is (rw w.kind-is at fields)
-    | in-Split w ↦ rw w.in-Split.is (rw w.kind-is at fields)
-    | in-Nil w ↦ rw w.in-Nil.is (rw w.kind-is at fields)
+      | in-Byte w ↦ rw w.in-Byte.is (rw w.kind-is at fields)
+      | in-Stretch w ↦ rw w.in-Stretch.is (rw w.kind-is at fields)
+      | in-Split w ↦ rw w.in-Split.is (rw w.kind-is at fields)
+      | in-Nil w ↦ rw w.in-Nil.is (rw w.kind-is at fields)
     ]
