@@ -2,80 +2,68 @@
 -- Assumes nothing.
 use Prim.Native.Nat.{ℕ, ◌+◌, ◌*◌, ◌≤◌, ◌<◌}
 use mathlib.Core.Path.{◌≡◌, refl, ◌∙◌}
-use mathlib.Core.Bool.{Bool, true, false, not}
+use mathlib.Core.Logic.{◌≢◌}
+use mathlib.Core.Bool.{Bool, not}
 use mathlib.Core.List.{List}
 use native.Mathlib.Omega.{arith}
 use lib.Dec.{eqb}
+use borrow.Author.Tests.{lt-ltb}
 use lib.ListN.{length}
 use Rattle.paper.specs.Rows.{Grammar}
 use Rattle.paper.specs.Sheet.{grammar_of}
-use Rattle.workspace.specs.Bits.{put_bit, wiped, copied}
+use Rattle.workspace.specs.Bits.{bit_at, wiped, copied}
+use Rattle.workspace.specs.Where.{put_below}
 use Rattle.workspace.proofs.Spans.{lt_or_le}
-use Rattle.workspace.proofs.Bits.{length_set_bit, set_bit_same, set_bit_other, set_bit_apart, length_wiped, wiped_bit, wiped_apart, copied_bit, copied_apart}
+use Rattle.workspace.proofs.Where.{length_put_below, put_below_bit, put_below_apart}
+use Rattle.workspace.proofs.Bits.{length_wiped, wiped_bit, wiped_apart, copied_bit, copied_apart}
 use Rattle.sheet_contents.specs.declared.Row.{Row}
 use Rattle.sheet_contents.specs.Read.{as_row}
 use Rattle.sheet.specs.Readers.{RowRead}
 use Rattle.rows.specs.Sets.{Nulls, Reached}
 use Rattle.maker_options.specs.Giving.{Gives, giving}
-use Rattle.maker_options.specs.Prepared.{Entry, across, Turned, Given, Ready}
+use Rattle.maker_options.specs.Prepared.{across, Turned, Given, Ready}
 
-module _ (e : ℕ) (f : ℕ → Bool) (old : List ℕ) (room : 4 * e + 4 ≤ length old) where
-  -- row n joins where the test passes
-  entry_more : (n : ℕ) (now : List ℕ) (on : Bool) → n < 256 → on ≡ f n → Entry e n f old now → Entry e (n + 1) f old (put_bit on now e n)
-  unfolding put_bit
-  entry_more n now true h eq x = record {
-    long = length_set_bit now e n ∙ x.long;
-    here = λ q l. lt_or_le q n (λ u. set_bit_other now e n q (λ d. omega arith) ∙ x.here q u) (λ u. let d : q ≡ n = omega arith in rw d (set_bit_same now e n (omega (arith, x.long)) h ∙ eq));
-    above = λ q l. set_bit_other now e n q (λ d. omega arith) ∙ x.above q (omega arith);
-    apart = λ t q ne. set_bit_apart now e n t q ne h ∙ x.apart t q ne;
-  }
-  entry_more n now false h eq x = record {
-    long = x.long;
-    here = λ q l. lt_or_le q n (λ u. x.here q u) (λ u. let d : q ≡ n = omega arith in rw d (x.above n (omega arith) ∙ eq));
-    above = λ q l. x.above q (omega arith);
-    apart = x.apart;
-  }
+-- the table with the rows below n that pass in entry e, and no other row there
+module _ (f : ℕ → Bool) (e n : ℕ) (old mid now : List ℕ) (room : 4 * e + 4 ≤ length old) (few : n ≤ 256) (clean : mid ≡ wiped old e) (made : now ≡ put_below f mid e n) where
+  entry_length : length now ≡ length old
+  entry_length = rw (made, clean) (length_put_below f (wiped old e) e n ∙ length_wiped old e)
 
-  pub entry_turn : (n : ℕ) (now next : List ℕ) (on : Bool) → n < 256 → on ≡ f n → next ≡ put_bit on now e n → Entry e n f old now → Entry e (n + 1) f old next
-  entry_turn n now next on h eq k x = rw k (entry_more n now on h eq x)
+  entry_here : (q : ℕ) → q < n → bit_at now e q ≡ f q
+  entry_here q h =
+      rw (made, clean) (put_below_bit f (wiped old e) e n (rw length_wiped room) few q ∙ rw (wiped_bit old e room q, lt-ltb q n h))
 
-module _ (e : ℕ) (f : ℕ → Bool) (old mid : List ℕ) (clean : mid ≡ wiped old e) where
-  pub entry_start : 4 * e + 4 ≤ length old → Entry e 0 f mid mid
-  entry_start room = record { long = refl; here = λ q l. absurd (omega arith); above = λ q l. rw clean (wiped_bit old e room q); apart = λ t q ne. refl }
-
-  pub entry_length : length mid ≡ length old
-  entry_length = rw clean (length_wiped old e)
-
-  pub entry_done : (q n : ℕ) (now : List ℕ) → q ≡ n → Entry e q f mid now → Entry e n f old now
-  entry_done q n now k h = let x = rw k at h in record {
-    long = x.long ∙ entry_length;
-    here = x.here;
-    above = x.above;
-    apart = λ t q ne. x.apart t q ne ∙ rw clean (wiped_apart old e t q ne);
-  }
+  entry_apart : (t q : ℕ) → t ≢ e → bit_at now t q ≡ bit_at old t q
+  entry_apart t q ne = rw (made, clean) (put_below_apart f (wiped old e) e n few t q ne ∙ wiped_apart old e t q ne)
 
 -- ---- each row's entry
 
 pub turned_none : (from : List ℕ) (n : ℕ) (ws : List ℕ) → length ws ≡ 1268 → Turned from n 0 ws
 turned_none from n ws h = record { long = h; each = λ r q l u. absurd (omega arith) }
 
-pub turned_more : (from : List ℕ) (n k : ℕ) (ws now : List ℕ) → Turned from n k ws → Entry k n (across from k) ws now → Turned from n (k + 1) now
-turned_more from n k ws now x y = record {
-  long = y.long ∙ x.long;
-  each = λ r q l u. lt_or_le r k (λ v. y.apart r q (λ d. omega arith) ∙ x.each r q v u) (λ v. let d : r ≡ k = omega arith in rw d (y.here q u));
-}
+pub turned_more : (from : List ℕ) (n k : ℕ) {ws mid now : List ℕ} → k < n → n ≤ 256 → Turned from n k ws → mid ≡ wiped ws k → now ≡ put_below (across from k) mid k n → Turned from n (k + 1) now
+turned_more from n k {ws = ws} h few x clean made =
+    let f = across from k in
+    let room : 4 * k + 4 ≤ length ws = omega (arith, x.long) in record {
+      long = entry_length f k n _ _ _ room few clean made ∙ x.long;
+      each = λ r q l u. lt_or_le r k (λ v. entry_apart f k n _ _ _ room few clean made r q (λ d. omega arith) ∙ x.each r q v u) (λ v. let d : r ≡ k = omega arith in rw d (entry_here f k n _ _ _ room few clean made q u));
+    }
 
 -- ---- each length's entry
 
 pub given_none : (g : Grammar) (ws : List ℕ) → length ws ≡ 1268 → Given g 1 ws ws
 given_none g ws h = record { long = h; each = λ m q a b u. absurd (omega arith); kept = λ t q l. refl }
 
-pub given_more : (g : Grammar) (k rows : ℕ) (old ws now : List ℕ) → 1 ≤ k → rows ≡ length g.rows → Given g k old ws → Entry (256 + k) rows (giving g k) ws now → Given g (k + 1) old now
-given_more g k rows old ws now h e x y = record {
-  long = y.long ∙ x.long;
-  each = λ m q a b u. lt_or_le m k (λ v. y.apart (256 + m) q (λ d. omega arith) ∙ x.each m q a v u) (λ v. let d : m ≡ k = omega arith in rw d (y.here q (omega arith)));
-  kept = λ t q l. y.apart t q (λ d. omega arith) ∙ x.kept t q l;
-}
+pub given_more : (g : Grammar) (k rows : ℕ) {old ws mid now : List ℕ} → 1 ≤ k → k ≤ 60 → rows ≤ 256 → rows ≡ length g.rows → Given g k old ws
+    → mid ≡ wiped ws (256 + k) → now ≡ put_below (giving g k) mid (256 + k) rows → Given g (k + 1) old now
+given_more g k rows {ws = ws} h high few e x clean made =
+    let f = giving g k in
+    let room : 4 * (256 + k) + 4 ≤ length ws = omega (arith, x.long) in record {
+      long = entry_length f (256 + k) rows _ _ _ room few clean made ∙ x.long;
+      each = λ m q a b u.
+          lt_or_le m k (λ v. entry_apart f (256 + k) rows _ _ _ room few clean made (256 + m) q (λ d. omega arith) ∙ x.each m q a v u)
+          (λ v. let d : m ≡ k = omega arith in rw d (entry_here f (256 + k) rows _ _ _ room few clean made q (omega arith)));
+      kept = λ t q l. entry_apart f (256 + k) rows _ _ _ room few clean made t q (λ d. omega arith) ∙ x.kept t q l;
+    }
 
 -- ---- all of it
 

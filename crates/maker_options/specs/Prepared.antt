@@ -1,5 +1,5 @@
 -- What is made once a call: for each row the rows that it reaches, and for each length the rows that give an option there.
-use Rattle.std.specs.Prelude.{ℕ, ◌+◌, ◌≤◌, ◌<◌, ◌≡◌, ◌≢◌, Bool, false, List, length, get_or}
+use Rattle.std.specs.Prelude.{ℕ, ◌+◌, ◌≤◌, ◌<◌, ◌≡◌, Bool, List, length, get_or}
 use Rattle.paper.specs.Rows.{Grammar}
 use Rattle.paper.specs.Decide.{nullable, reaches}
 use Rattle.paper.specs.Sheet.{grammar_of}
@@ -31,13 +31,6 @@ pub record Prepared (s ws : List ℕ) (j : Job) : Type 0 where
 -- row r reaches a row, which gives an option at length m
 abbrev pub chosen : List ℕ → (r m : ℕ) → ℕ → Bool
 chosen ws r m = in_both ws r (256 + m)
-
--- entry e holds those of the rows below n that pass the test; the other entries are as they were
-pub record Entry (e n : ℕ) (f : ℕ → Bool) (old now : List ℕ) : Type 0 where
-  pub long : length now ≡ length old
-  pub here : (q : ℕ) → q < n → bit_at now e q ≡ f q
-  pub above : (q : ℕ) → n ≤ q → bit_at now e q ≡ false
-  pub apart : (t q : ℕ) → t ≢ e → bit_at now t q ≡ bit_at old t q
 
 -- the rows whose entry in a table holds row r
 abbrev pub across : List ℕ → (r q : ℕ) → Bool

@@ -1,51 +1,40 @@
 // What is made once a call: for each row the rows that it reaches, and for each length the rows that give an option there.
 ghost use Rattle.std.specs.Prelude.{◌≡◌, ◌+◌, ◌*◌, ◌≤◌, ◌<◌, length};
 ghost use Rattle.paper.specs.Sheet.{grammar_of};
+ghost use Rattle.rows.specs.Sets.{RowsAt};
 ghost use Rattle.maker_options.specs.Giving.{giving};
-ghost use Rattle.maker_options.specs.Prepared.{JobOf, Prepared, Entry, across, Turned, Given};
+ghost use Rattle.maker_options.specs.Prepared.{JobOf, Prepared, Turned, Given};
 
 use super::{Job, sizes};
+use sheet_trailer::Table;
 
-// The rows below n whose entry in `from` holds row r, into entry r.
-fn turn_row(from: &[u64], n: usize, ws: &mut [u64], r: usize)
-    requires { (n ≤ 256) × (4 * n ≤ length from.now) × (r < 256) × (4 * r + 4 ≤ length ws.old) }
-    ensures { Entry r n (across from.now r) ws.old ws.new }
-{
-    workspace::wipe(ws, r);
-    for q in 0..n {
-        workspace::put(ws, r, q, workspace::test(from, q, r));
-    }
-}
-
-// The same for each row.
+// The rows below n whose entry in `from` holds row r, into entry r, for each row r below n.
 fn turn(from: &[u64], n: usize, ws: &mut [u64])
     requires { (n ≤ 256) × (4 * n ≤ length from.now) × (length ws.old ≡ 1268) }
     ensures { Turned from.now n n ws.new }
 {
     for r in 0..n {
-        turn_row(from, n, ws, r);
+        workspace::wipe(ws, r);
+        workspace::put_where(ws, r, n, |q| workspace::test(from, q, r));
     }
 }
 
-// The rows that give an option by themselves at length m, into entry 256 + m.
-fn give(s: &[u8], j: Job, ws: &mut [u64], m: usize)
-    requires { JobOf s.now j × (1 ≤ m) × (m ≤ 60) × (length ws.old ≡ 1268) }
-    ensures { Entry (256 + m) j.rows.count (giving (grammar_of s.now) m) ws.old ws.new }
+// Whether row q gives an option by itself at length m.
+fn gives(s: &[u8], rows: Table, m: usize, q: usize) -> bool
+    requires { RowsAt s.now rows × (1 ≤ m) × (q < rows.count) }
+    ensures { result ≡ giving (grammar_of s.now) m q }
 {
-    workspace::wipe(ws, 256 + m);
-    for q in 0..j.rows.count {
-        let count = sizes::own_count(sheet::row_at(s, j.rows, q), m);
-        workspace::put(ws, 256 + m, q, count != 0);
-    }
+    sizes::own_count(sheet::row_at(s, rows, q), m) != 0
 }
 
-// The same for each length from 1 to n.
-fn give_all(s: &[u8], j: Job, ws: &mut [u64])
+// The rows that give an option by themselves at length m, into entry 256 + m, for each length from 1 to n.
+fn give(s: &[u8], j: Job, ws: &mut [u64])
     requires { JobOf s.now j × (length ws.old ≡ 1268) }
     ensures { Given (grammar_of s.now) (j.n + 1) ws.old ws.new }
 {
     for m in 1..j.n + 1 {
-        give(s, j, ws, m);
+        workspace::wipe(ws, 256 + m);
+        workspace::put_where(ws, 256 + m, j.rows.count, |q| gives(s, j.rows, m, q));
     }
 }
 
@@ -60,5 +49,5 @@ pub fn prepare(s: &[u8], j: Job, ws: &mut [u64])
     rows::reach(s, j.rows, &nulls, &mut reach);
     turn(&reach, j.rows.count, ws);
     workspace::copy(ws, 256, &nulls, 0);
-    give_all(s, j, ws);
+    give(s, j, ws);
 }

@@ -20,5 +20,5 @@ returns c =
       job = p;
       ready =
           ready_is (grammar_of a.s.now) a.j.n a.j.rows.count _ _ _ _ _ rows (job_few p) c.nulls.ensures reach c.turn.ensures
-          c.copy.ensures c.give_all.ensures;
+          c.copy.ensures c.give.ensures;
     }

@@ -1,3 +1,7 @@
+use native.Mathlib.Omega.{arith}
+use borrow.Author.Rules.{rules}
+use Rattle.workspace.proofs.Where.{put_where_is}
+use Rattle.maker_options.specs.Prepared.{across}
 use Rattle.maker_options.proofs.Entries.{turned_none, turned_more}
 use Rattle.maker_options.proofs.ready.turn.Goals as goal
 
@@ -5,4 +9,8 @@ pub loop-r-init : goal.loop-r-init
 loop-r-init c = turned_none c.args.from.now c.args.n c.args.ws.now c.requires.2
 
 pub loop-r-preserved : goal.loop-r-preserved
-loop-r-preserved c = turned_more c.args.from.now c.args.n c.loop-r.r c.loop-r.ws _ c.loop-r.invariant c.turn_row.ensures
+loop-r-preserved c =
+    let a = c.args in
+    let r = c.loop-r.r-counter in
+    turned_more a.from.now a.n r (omega arith) (omega arith) c.loop-r.invariant c.wipe.ensures
+    (put_where_is (across a.from.now r) c.put_where.ensures (λ q on h e. search rules))
