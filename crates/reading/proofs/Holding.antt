@@ -7,7 +7,7 @@ use mathlib.Core.List.{List, [], ◌∷◌}
 use native.Mathlib.Omega.{arith}
 use lib.Dec.{eqb, leb}
 use lib.ListN.{length, get_or, take, drop, length-take, length-drop}
-use Rattle.std.specs.List.{starts_with}
+use Rattle.std.specs.Cmp.Lexicographic.{pointwise}
 use Rattle.std.proofs.Common.{drop-cons}
 use borrow.Author.Tests.{eq-eqb, eqb-true, le-leb, leb-true}
 use Rattle.paper.specs.Decide.{Test, exactly, fits, some_in}
@@ -37,12 +37,12 @@ module _ (word : List ℕ) (i : ℕ) where
           any_intro (suc hi - lo) (λ k. eqb (lo + k) (get_or word i 0)) (get_or word i 0 - lo) (omega arith) (eq-eqb (lo + (get_or word i 0 - lo)) (get_or word i 0) (omega arith))
 
 -- the part stands in the word from place i on
-pub starts_fits : (word part : List ℕ) (i : ℕ) → i + length part ≤ length word → starts_with eqb (drop i word) part ≡ fits (exactly word) i part
+same_fits : (word part : List ℕ) (i : ℕ) → i + length part ≤ length word → pointwise eqb part (take (length part) (drop i word)) ≡ fits (exactly word) i part
 unfolding fits exactly
-starts_fits word [] i h = refl
-starts_fits word (b ∷ part) i h =
+same_fits word [] i h = refl
+same_fits word (b ∷ part) i h =
     let l : i < length word = omega arith in
-    rw (drop-cons word i 0) (ap (λ t. eqb b (get_or word i 0) && t) (starts_fits word part (suc i) (omega arith)))
+    rw (drop-cons word i 0) (ap (λ t. eqb b (get_or word i 0) && t) (same_fits word part (suc i) (omega arith)))
 
 -- ---- when an option holds
 
@@ -51,9 +51,12 @@ module _ (text word : List ℕ) (acc : Test) (m i : ℕ) where
   unfolding holds
   holds_byte_lem lo hi = byte_in word i lo hi
 
-  pub holds_stretch : (a b : ℕ) → a + b ≤ length text → i + b ≤ length word → holds text (exactly word) acc m i (Stretch a b) ≡ starts_with eqb (drop i word) (take b (drop a text))
+  pub holds_stretch : (a b : ℕ) → a + b ≤ length text → i + b ≤ length word → holds text (exactly word) acc m i (Stretch a b) ≡ pointwise eqb (take b (drop a text)) (take b (drop i word))
   unfolding holds
-  holds_stretch a b h l = rw (stretch_part text a b h) (sym (starts_fits word (take b (drop a text)) i (simp (length-take, length-drop) (omega arith))))
+  holds_stretch a b h l =
+      let part = take b (drop a text) in
+      let e : length part ≡ b = simp (length-take, length-drop) (omega arith) in
+      rw (stretch_part text a b h) (sym (rw e at (same_fits word part i (rw e l))))
 
   pub holds_split : (k a b : ℕ) → holds text (exactly word) acc m i (Split k a b) ≡ (acc k i a && acc (m - k) (i + k) b)
   unfolding holds

@@ -21,7 +21,7 @@ fn holds(text: &[u8], word: &[u8], work: &[u64], x: Opt, m: usize, i: usize) -> 
 {
     match x {
         Opt::Byte(low, high) => (low..=high).contains(&usize::from(word[i])),
-        Opt::Stretch(a, b) => word[i..].starts_with(&text[a..a + b]),
+        Opt::Stretch(a, b) => text[a..a + b] == word[i..i + b],
         Opt::Split(k, a, b) => {
             workspace::test(work, workspace::span(i, k), a)
                 && workspace::test(work, workspace::span(i + k, m - k), b)

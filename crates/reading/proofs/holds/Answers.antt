@@ -1,11 +1,10 @@
 use native.Mathlib.Nat.{add-sub_cancel_left}
 use native.Mathlib.Omega.{arith}
 use mathlib.Core.Path.{subst}
-use Prim.Native.Nat.{◌+◌, ◌-◌, ◌≤◌}
-use lib.ListN.{length, drop, length-drop}
+use Prim.Native.Nat.{◌+◌, ◌≤◌}
+use lib.ListN.{length}
 use borrow.Author.Rules.{rules}
 use Rattle.std.proofs.Common.{tests}
-use Rattle.std.proofs.lemmas.List.{take_all}
 use Rattle.list.specs.Read.{option_of}
 use Rattle.paper.proofs.Obeys.{Obeys}
 use Rattle.reading.proofs.Holding.{holds_byte_lem, holds_stretch}
@@ -20,5 +19,4 @@ returns-in-Stretch c =
     let s = c.in-Stretch in
     let o = subst (λ z. Obeys (length a.text.now) 256 a.m (option_of z)) s.is c.requires.0 in
     let l : a.i + s.b ≤ length a.word.now = omega (arith, o.0) in
-    let all = take_all (length a.word.now - a.i) (drop a.i a.word.now) (omega (arith, length-drop a.i a.word.now)) in
-    rw (s.is, holds_stretch _ _ _ _ _ _ _ o.2 l) (simp (all, add-sub_cancel_left) at c.starts_with.ensures.value)
+    rw (s.is, holds_stretch _ _ _ _ _ _ _ o.2 l) (simp add-sub_cancel_left at c.eq.ensures)
