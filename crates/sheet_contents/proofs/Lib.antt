@@ -1,1 +1,1 @@
-pub mod NoKind
+pub mod OfKind

@@ -1,5 +1,6 @@
 -- The paper's rows, parts and assertions that the code's stand for, and what their readers give.
-use Rattle.std.specs.Prelude.{ℕ, ◌<◌, ◌≡◌, List}
+use Rattle.std.specs.Prelude.{ℕ, ◌+◌, ◌<◌, ◌≡◌, List}
+use Rattle.paper.specs.Bytes.{u16_at}
 use Rattle.paper.specs.Rows as rows
 use Rattle.paper.specs.Terms as terms
 use Rattle.paper.specs.Sheet as sheet
@@ -36,6 +37,10 @@ as_run r = record { first = r.first; count = r.count }
 
 abbrev pub as_assertion : Assertion → sheet.Assertion
 as_assertion a = record { claim = as_claim a.claim; denied = a.denied; term = as_run a.term }
+
+-- the two numbers at o, of two bytes each
+abbrev pub PairRead : List ℕ → ℕ → ℕ × ℕ → Type 0
+PairRead s o p = (p.0 ≡ u16_at s o) × (p.1 ≡ u16_at s (o + 2)) × (p.0 < 65536) × (p.1 < 65536)
 
 -- the row at o
 abbrev pub RowRead : List ℕ → ℕ → Row → Type 0

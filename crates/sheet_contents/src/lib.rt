@@ -1,11 +1,10 @@
 #![tactic(auto)]
 
 // A sheet's rows, parts and assertions, read from the bytes at which they stand.
-ghost use Rattle.std.specs.Prelude.{◌≡◌, ◌+◌, ◌≤◌, ◌<◌, length};
-ghost use Rattle.paper.specs.Rows.{row_of};
-ghost use Rattle.paper.specs.Terms.{part_of};
-ghost use Rattle.paper.specs.Sheet.{claim_of, second_run};
-ghost use Rattle.sheet_contents.specs.Read.{as_row, as_part, as_claim, as_run, SmallPart, RowRead, PartRead, AssertionRead};
+ghost use Rattle.std.specs.Prelude.{◌≡◌, ◌+◌, ◌≤◌, length};
+ghost use Rattle.paper.specs.Sheet.{second_run};
+ghost use Rattle.sheet_contents.specs.Kinds.{RowOf, PartOf, ClaimOf};
+ghost use Rattle.sheet_contents.specs.Read.{as_claim, as_run, PairRead, RowRead, PartRead, AssertionRead};
 
 #[derive(Clone, Copy)]
 pub enum Row {
@@ -46,79 +45,84 @@ pub struct Assertion {
     pub term: Run,
 }
 
-// A row of no kind derives nothing: a range with no byte in it.
-fn row_of(kind: u8, a: usize, b: usize) -> Row
-    ensures { as_row result ≡ row_of kind a b }
+// The two numbers at o.
+pub fn pair_at(s: &[u8], o: usize) -> (usize, usize)
+    requires { o + 4 ≤ length s.now }
+    ensures { PairRead s.now o result }
+{
+    (numbers::u16_at(s, o), numbers::u16_at(s, o + 2))
+}
+
+// The row of each kind.
+pub fn row_of(kind: u8, a: usize, b: usize) -> Option<Row>
+    ensures { RowOf kind a b result }
 {
     match kind {
-        1 => Row::Empty,
-        2 => Row::Range(a, b),
-        3 => Row::Text(a, b),
-        4 => Row::Alt(a, b),
-        5 => Row::Seq(a, b),
-        6 => Row::Star(a),
-        0 | 7..=255 => Row::Range(1, 0),
+        1 => Some(Row::Empty),
+        2 => Some(Row::Range(a, b)),
+        3 => Some(Row::Text(a, b)),
+        4 => Some(Row::Alt(a, b)),
+        5 => Some(Row::Seq(a, b)),
+        6 => Some(Row::Star(a)),
+        _ => None,
     }
 }
 
-// The row at o.
+// The row at o. One of no kind derives nothing: a range with no byte in it.
 pub fn row_at(s: &[u8], o: usize) -> Row
     requires { o + 6 ≤ length s.now }
     ensures { RowRead s.now o result }
 {
-    let a = numbers::u16_at(s, o + 2);
-    let b = numbers::u16_at(s, o + 4);
-    row_of(s[o], a, b)
+    let (a, b) = pair_at(s, o + 2);
+    row_of(s[o], a, b).unwrap_or(Row::Range(1, 0))
 }
 
-fn part_of(kind: u8, a: usize, b: usize) -> Part
-    requires { (a < 65536) × (b < 65536) }
-    ensures { (as_part result ≡ part_of kind a b) × SmallPart (as_part result) }
+// The part of each kind.
+pub fn part_of(kind: u8, a: usize, b: usize) -> Option<Part>
+    ensures { PartOf kind a b result }
 {
     match kind {
-        1 => Part::Const(a, b),
-        2 => Part::All,
-        0 | 3..=255 => Part::Cut(a, b),
+        1 => Some(Part::Const(a, b)),
+        2 => Some(Part::All),
+        3 => Some(Part::Cut(a, b)),
+        _ => None,
     }
 }
 
-// The part at o.
+// The part at o. One of no kind counts as a cut.
 pub fn part_at(s: &[u8], o: usize) -> Part
     requires { o + 6 ≤ length s.now }
     ensures { PartRead s.now o result }
 {
-    let a = numbers::u16_at(s, o + 2);
-    let b = numbers::u16_at(s, o + 4);
-    part_of(s[o], a, b)
+    let (a, b) = pair_at(s, o + 2);
+    part_of(s[o], a, b).unwrap_or(Part::Cut(a, b))
 }
 
-fn claim_of(kind: u8, a: usize, b: usize) -> Claim
-    ensures { as_claim result ≡ claim_of kind a b }
+// The claim of each kind.
+pub fn claim_of(kind: u8, a: usize, b: usize) -> Option<Claim>
+    ensures { ClaimOf kind a b result }
 {
     match kind {
-        1 => Claim::Derived(a),
-        2 => Claim::Contains(a, b),
-        3 => Claim::Equals(a, b),
-        0 | 4..=255 => Claim::ContainsTerm(a, b),
+        1 => Some(Claim::Derived(a)),
+        2 => Some(Claim::Contains(a, b)),
+        3 => Some(Claim::Equals(a, b)),
+        4 => Some(Claim::ContainsTerm(a, b)),
+        _ => None,
     }
 }
 
-// The assertion at o.
+// The assertion at o. A claim of no kind counts as containment of a term.
 pub fn assertion_at(s: &[u8], o: usize) -> Assertion
     requires { o + 12 ≤ length s.now }
     ensures { AssertionRead s.now o result }
 {
-    let first = numbers::u16_at(s, o + 2);
-    let count = numbers::u16_at(s, o + 4);
-    let a = numbers::u16_at(s, o + 6);
-    let b = numbers::u16_at(s, o + 8);
-    let denied = s[o + 1] == 1;
-    let claim = claim_of(s[o], a, b);
-    let term = Run { first, count };
+    let (first, count) = pair_at(s, o + 2);
+    let (a, b) = pair_at(s, o + 6);
+    let claim = claim_of(s[o], a, b).unwrap_or(Claim::ContainsTerm(a, b));
     Assertion {
         claim,
-        denied,
-        term,
+        denied: s[o + 1] == 1,
+        term: Run { first, count },
     }
 }
 
@@ -127,9 +131,7 @@ pub fn second_run(c: Claim) -> Run
     ensures { as_run result ≡ second_run (as_claim c) }
 {
     match c {
-        Claim::Derived(_) => Run { first: 0, count: 0 },
-        Claim::Contains(_, _) => Run { first: 0, count: 0 },
-        Claim::Equals(a, b) => Run { first: a, count: b },
-        Claim::ContainsTerm(a, b) => Run { first: a, count: b },
+        Claim::Derived(_) | Claim::Contains(_, _) => Run { first: 0, count: 0 },
+        Claim::Equals(first, count) | Claim::ContainsTerm(first, count) => Run { first, count },
     }
 }

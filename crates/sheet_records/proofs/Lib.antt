@@ -1,2 +1,1 @@
-pub mod RowKinds
 pub mod Kept

@@ -10,7 +10,10 @@ ghost use Rattle.paper.specs.Records.{record_ok, table_ok};
 ghost use Rattle.sheet_trailer.specs.FirstBad.{FirstBad};
 ghost use Rattle.sheet_trailer.specs.Placed.{Trailed, Laid};
 
+use sheet_trailer::{count_of, table_of, Table, SIZE};
+
 // The record of table t at o.
+#[tactic(auto, unfolding(paper::specs::Records::record_ok))]
 fn record_ok(s: &[u8], t: usize, o: usize) -> bool
     requires { Trailed s.now × (t < 5) × (o + size t ≤ length s.now) }
     ensures { result ≡ record_ok s.now t o }
@@ -18,21 +21,9 @@ fn record_ok(s: &[u8], t: usize, o: usize) -> bool
     match t {
         0 => rules::letter_ok(s, o),
         1 => true,
-        2 => {
-            let text = sheet_trailer::count_of(s, 1);
-            let rows = sheet_trailer::count_of(s, 2);
-            rules::row_ok(s, o, rows, text)
-        }
-        3 => {
-            let text = sheet_trailer::count_of(s, 1);
-            rules::part_ok(s, o, text)
-        }
-        _ => {
-            let text = sheet_trailer::count_of(s, 1);
-            let rows = sheet_trailer::count_of(s, 2);
-            let parts = sheet_trailer::count_of(s, 3);
-            rules::assert_ok(s, o, text, rows, parts)
-        }
+        2 => rules::row_ok(s, o, count_of(s, 2), count_of(s, 1)),
+        3 => rules::part_ok(s, o, count_of(s, 1)),
+        _ => rules::assert_ok(s, o, count_of(s, 1), count_of(s, 2), count_of(s, 3)),
     }
 }
 
@@ -41,10 +32,9 @@ pub fn bad_record(s: &[u8], t: usize) -> Option<usize>
     requires { Laid s.now × (t < 5) }
     ensures { FirstBad (λ i. record_ok s.now t (record_at s.now t i)) (count_of s.now t) result }
 {
-    let x = sheet_trailer::table_of(s, t);
-    let at = x.at;
-    let size = sheet_trailer::SIZE[t];
-    (0..x.count).find(|i| !record_ok(s, t, at + size * *i))
+    let Table { at, count } = table_of(s, t);
+    let size = SIZE[t];
+    (0..count).find(|i| !record_ok(s, t, at + size * *i))
 }
 
 // No record of table t is bad.

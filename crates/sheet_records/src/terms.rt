@@ -6,37 +6,36 @@ ghost use Rattle.sheet_trailer.specs.FirstBad.{FirstBad};
 ghost use Rattle.sheet_trailer.specs.Placed.{Trailed, Laid};
 ghost use Rattle.sheet_contents.specs.Read.{as_run};
 
-use sheet_contents::Part;
+use sheet_contents::{second_run, Part, Run};
+use sheet_trailer::Table;
 
 // The bytes of the part at o.
+#[tactic(auto, unfolding(paper::specs::Records::part_len, paper::specs::Terms::full_length))]
 fn part_len(s: &[u8], o: usize) -> usize
     requires { Trailed s.now × (o + 6 ≤ length s.now) }
     ensures { (result ≡ part_len s.now o) × (result < 65536) }
 {
-    let p = sheet_contents::part_at(s, o);
-    match p {
-        Part::Const(_, b) => b,
+    match sheet_contents::part_at(s, o) {
+        Part::Const(_, count) | Part::Cut(_, count) => count,
         Part::All => sheet_trailer::longest(s),
-        Part::Cut(_, b) => b,
     }
 }
 
 // The bytes of n parts, the first at o.
+#[tactic(auto, unfolding(paper::specs::Records::term_len))]
 fn term_len(s: &[u8], o: usize, n: usize) -> usize
     requires { Trailed s.now × (o + 6 * n ≤ length s.now) × (n ≤ 64) }
     ensures { result ≡ term_len s.now o n }
 {
     let mut sum: usize = 0;
-    let mut i: usize = 0;
-    while i < n {
+    for i in 0..n {
         sum += part_len(s, o + 6 * i);
-        i += 1;
     }
     sum
 }
 
 // The term of a run of parts has at most 60 bytes.
-fn term_fits(s: &[u8], r: sheet_contents::Run) -> bool
+fn term_fits(s: &[u8], r: Run) -> bool
     requires { Laid s.now × (r.first + r.count ≤ count_of s.now 3) }
     ensures { result ≡ term_fits s.now (as_run r) }
 {
@@ -45,17 +44,13 @@ fn term_fits(s: &[u8], r: sheet_contents::Run) -> bool
 }
 
 // The terms of the assertion at o, which keeps its rule.
+#[tactic(auto, unfolding(paper::specs::Records::assert_fits))]
 fn assert_fits(s: &[u8], o: usize) -> bool
     requires { Laid s.now × (o + 12 ≤ length s.now) × (record_ok s.now 4 o ≡ true) }
     ensures { result ≡ assert_fits s.now o }
 {
     let a = sheet_contents::assertion_at(s, o);
-    let term = a.term;
-    if !term_fits(s, term) {
-        return false;
-    }
-    let claim = a.claim;
-    term_fits(s, sheet_contents::second_run(claim))
+    term_fits(s, a.term) && term_fits(s, second_run(a.claim))
 }
 
 // The first assertion with an overlong term.
@@ -63,7 +58,6 @@ pub fn bad_term(s: &[u8]) -> Option<usize>
     requires { Laid s.now × (bad_table s.now ≡ 5) }
     ensures { FirstBad (λ i. assert_fits s.now (record_at s.now 4 i)) (count_of s.now 4) result }
 {
-    let x = sheet_trailer::table_of(s, 4);
-    let at = x.at;
-    (0..x.count).find(|i| !assert_fits(s, at + 12 * *i))
+    let Table { at, count } = sheet_trailer::table_of(s, 4);
+    (0..count).find(|i| !assert_fits(s, at + 12 * *i))
 }

@@ -10,8 +10,8 @@ use Rattle.sheet_records.proofs.bad_record.Goals as goal
 
 pub returns : goal.returns
 returns c =
-    let x = c.table_of-x.ensures.0 in
+    let x = c.table_of-at.ensures.0 in
     let ok : ℕ → Bool = λ i. record_ok c.args.s.now c.args.t (record_at c.args.s.now c.args.t i) in
     rw (← x.counts)
-    (bad_found ok c.table_of-x.result.count c.find.result
+    (bad_found ok c.table_of-at.result.count c.find.result
     (first_from_Range _ _ _ c.find.result (λ k. ok k ≡ false) (λ k. ok k ≡ true) c.find.ensures.ran (λ k q h. rw (← x.begins) (search rules)) (λ k q h. rw (← x.begins) (search rules))))

@@ -10,23 +10,23 @@ use Rattle.paper.specs.Trailer.{record_at, count_of}
 use Rattle.paper.specs.Records.{record_ok, assert_fits}
 use Rattle.sheet_trailer.proofs.Search.{bad_found}
 use Rattle.sheet_records.proofs.Kept.{kept}
-use Rattle.sheet_records.proofs.terms.bad_term.Goals.{After-table_of-x}
+use Rattle.sheet_records.proofs.terms.bad_term.Goals.{After-table_of-at}
 use Rattle.sheet_records.proofs.terms.bad_term.Goals as goal
 
 -- assertion i lies in the sheet, and keeps its rule
-here : (c : After-table_of-x) (i : ℕ) → i < c.table_of-x.result.count → (c.table_of-x.result.at + 12 * i + 12 ≤ length c.args.s.now) × (record_ok c.args.s.now 4 (c.table_of-x.result.at + 12 * i) ≡ true)
+here : (c : After-table_of-at) (i : ℕ) → i < c.table_of-at.result.count → (c.table_of-at.result.at + 12 * i + 12 ≤ length c.args.s.now) × (record_ok c.args.s.now 4 (c.table_of-at.result.at + 12 * i) ≡ true)
 here c i l =
-    let x = c.table_of-x.ensures.0 in
+    let x = c.table_of-at.ensures.0 in
     let h : i < count_of c.args.s.now 4 = omega (arith, x.counts) in
     (omega (arith, x.begins, c.requires.0.placed 4 (omega arith)), rw x.begins (kept c.args.s.now 4 i c.requires.1 (omega arith) h))
 
 pub find-requires-clause-callable : goal.find-requires-clause-callable
-find-requires-clause-callable c = grind (serving, here (goal.at.find-requires-clause-callable c).After-table_of-x)
+find-requires-clause-callable c = grind (serving, here (goal.at.find-requires-clause-callable c).After-table_of-at)
 
 pub returns : goal.returns
 returns c =
-    let x = c.table_of-x.ensures.0 in
+    let x = c.table_of-at.ensures.0 in
     let ok : ℕ → Bool = λ i. assert_fits c.args.s.now (record_at c.args.s.now 4 i) in
     rw (← x.counts)
-    (bad_found ok c.table_of-x.result.count c.find.result
+    (bad_found ok c.table_of-at.result.count c.find.result
     (first_from_Range _ _ _ c.find.result (λ k. ok k ≡ false) (λ k. ok k ≡ true) c.find.ensures.ran (λ k q h. rw (← x.begins) (search rules)) (λ k q h. rw (← x.begins) (search rules))))

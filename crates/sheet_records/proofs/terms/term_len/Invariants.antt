@@ -1,11 +1,8 @@
-use Prim.Native.Nat.{◌*◌, ◌-◌, ◌≤◌}
+use Prim.Native.Nat.{◌*◌, ◌≤◌}
 use mathlib.Core.Path.{◌≡◌}
 use Rattle.paper.specs.Records.{term_len}
 use Rattle.sheet_records.proofs.terms.term_len.Given as goal
 
 -- `sum` is the bytes of the first i parts
 abbrev pub invariant-loop-i : goal.invariant-loop-i
-invariant-loop-i l = (l.i ≤ l.n) × (l.sum ≡ term_len l.s l.o l.i) × (l.sum ≤ 65535 * l.i)
-
-abbrev pub decreases-loop-i : goal.decreases-loop-i
-decreases-loop-i l = l.n - l.i
+invariant-loop-i l = (l.sum ≡ term_len l.s l.o l.i) × (l.sum ≤ 65535 * l.i)
