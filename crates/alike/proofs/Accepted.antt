@@ -20,7 +20,7 @@ use Rattle.sheet.specs.Good.{Good}
 use Rattle.sheet.proofs.Contents.{rows_length, parts_length, assertions_length, row_here, part_here, assertion_here}
 use Rattle.sheet.proofs.Soundness.{text_is}
 use Rattle.alike.specs.Untold.{SoundIn, Inside, some_compares}
-use Rattle.alike.specs.Slots.{Holders, Barred, Given}
+use Rattle.alike.specs.Slots.{Holders, Free, Given}
 use Rattle.alike.proofs.Untold.{untold_alike}
 use Rattle.alike.proofs.Holding.{zero_at, rows_same}
 
@@ -50,16 +50,16 @@ module _ (s : List ℕ) (g : Good s) where
         rw (grammar_is, text_is s g, rows_length s, parts_length s, assertion_here s k (of_table assertion_at s 4 0) h) (g.assertions k h));
   }
 
-  pub given_classes : (ws bars slot : List ℕ) → some_compares (sheet_of s) ≡ false → Holders (grammar_of s) (count_of s 2) ws → Barred (sheet_of s) bars → Given ws bars slot
+  pub given_classes : (ws : List ℕ) (free : List Bool) (slot : List ℕ) → some_compares (sheet_of s) ≡ false → Holders (grammar_of s) (count_of s 2) ws → Free (sheet_of s) free → Given ws free slot
       → Classes (opens (sheet_of s)) slot
-  given_classes ws bars slot n h x f b c l m p d =
+  given_classes ws free slot n h x f b c l m p d =
       let o = f.free b l p in
       let q = f.free c m (omega arith) in
       let few : length (grammar_of s).rows ≤ 256 = rw rows_length (g.counts 2 (omega arith)).1 in
       untold_alike (sheet_of s) b c
       (record {
-        letter_one = x.others b l o;
-        letter_two = x.others c m q;
+        letter_one = x.letters b l o;
+        letter_two = x.letters c m q;
         rows = rw grammar_is (rows_same (grammar_of s) ws few (rw rows_length h) b c l m (f.alike b c l m p d));
         absent_one = x.text b o;
         absent_two = x.text c q;

@@ -1,8 +1,8 @@
 -- Whether a read sheet compares v with v, by the places of its tables.
 -- Assumes nothing.
-use Prim.Native.Nat.{ℕ, ◌+◌, ◌≤◌, ◌<◌}
+use Prim.Native.Nat.{ℕ, ◌+◌, ◌-◌, ◌≤◌, ◌<◌}
 use mathlib.Core.Path.{◌≡◌, sym, ap, ◌∙◌}
-use mathlib.Core.Bool.{Bool, true}
+use mathlib.Core.Bool.{Bool, true, false}
 use mathlib.Core.List.{List}
 use native.Mathlib.Omega.{arith}
 use native.Mathlib.Nat.{zero-add}
@@ -12,8 +12,12 @@ use Rattle.paper.specs.Tests.{any_below}
 use Rattle.paper.specs.Trailer.{count_of}
 use Rattle.paper.specs.Terms.{All}
 use Rattle.paper.specs.Sheet.{Run, parts_of, of_table, table_of, part_at, assertion_at, sheet_of}
-use Rattle.paper.proofs.Tests.{same_test, any_intro, any_elim, any_of_below, any_of_table}
-use Rattle.sheet.proofs.Contents.{parts_length, part_here}
+use Rattle.paper.proofs.Tests.{same_test, any_intro, any_elim, any_nowhere, any_of_below, any_of_table}
+use Rattle.sheet_contents.specs.declared.Part.{Part}
+use Rattle.sheet_contents.specs.declared.Assertion.{Assertion}
+use Rattle.sheet_contents.specs.Read.{as_part, as_assertion}
+use Rattle.sheet.specs.Readers.{PartRead, AssertionRead}
+use Rattle.sheet.proofs.Contents.{parts_length, part_here, assertion_here}
 use Rattle.alike.specs.Untold.{of_v, uses_v, compares_v, some_compares}
 
 any_as : (n : ℕ) (f g : ℕ → Bool) → ((k : ℕ) → k < n → f k ≡ g k) → any_below n f ≡ any_below n g
@@ -25,11 +29,18 @@ any_as n f g h = same_test _ _ (λ e. one f g h e) (λ e. one g f (λ k l. sym (
         any_intro n g z.0 z.1 (sym (h z.0 z.1) ∙ z.2)
 
 module _ (s : List ℕ) where
-  -- part k of a run is all of v or a cut of it
-  abbrev pub in_term : (first k : ℕ) → Bool
-  in_term first k = of_v (of_table part_at s 3 (first + k))
+  -- part k of the sheet is all of v or a cut of it
+  abbrev pub of_v_at : ℕ → Bool
+  of_v_at k = of_v (of_table part_at s 3 k)
 
-  pub uses_below : (r : Run) → r.first + r.count ≤ count_of s 3 → uses_v (sheet_of s) r ≡ any_below r.count (in_term r.first)
+  pub part_told : (k : ℕ) (p : Part) → k < count_of s 3 → PartRead s k p → of_v (as_part p) ≡ of_v_at k
+  part_told k p l h = ap of_v (h.same All ∙ part_here s k All l)
+
+  -- part k of a run is
+  abbrev in_term : (first k : ℕ) → Bool
+  in_term first k = of_v_at (first + k)
+
+  uses_below : (r : Run) → r.first + r.count ≤ count_of s 3 → uses_v (sheet_of s) r ≡ any_below r.count (in_term r.first)
   unfolding uses_v parts_of
   uses_below r h =
       let rest = drop r.first (sheet_of s).parts in
@@ -38,10 +49,27 @@ module _ (s : List ℕ) where
       any_as r.count _ (in_term r.first)
       (λ k i. ap of_v (get_or-take r.count rest k All i ∙ get_or-drop r.first (sheet_of s).parts k All ∙ part_here s (r.first + k) All (omega arith)))
 
+  pub uses_some : (r : Run) (k : ℕ) → r.first + r.count ≤ count_of s 3 → r.first ≤ k → k < r.first + r.count → of_v_at k ≡ true → true ≡ uses_v (sheet_of s) r
+  uses_some r k h l m e =
+      let p : k ≡ r.first + (k - r.first) = omega arith in
+      sym (uses_below r h ∙ any_intro r.count (in_term r.first) (k - r.first) (omega arith) (ap of_v_at (sym p) ∙ e))
+
+  pub uses_none : (r : Run) → r.first + r.count ≤ count_of s 3 → ((k : ℕ) → r.first ≤ k → k < r.first + r.count → of_v_at k ≡ false) → false ≡ uses_v (sheet_of s) r
+  uses_none r h f = sym (uses_below r h ∙ any_nowhere r.count (in_term r.first) (λ k l. f (r.first + k) (omega arith) (omega arith)))
+
   -- assertion i compares v with v
   abbrev pub compares_at : ℕ → Bool
   compares_at i = compares_v (sheet_of s) (of_table assertion_at s 4 i)
 
-  pub some_below : some_compares (sheet_of s) ≡ any_below (count_of s 4) compares_at
+  pub assertion_told : (i : ℕ) (a : Assertion) → i < count_of s 4 → AssertionRead s i a → compares_v (sheet_of s) (as_assertion a) ≡ compares_at i
+  assertion_told i a l h = let d = of_table assertion_at s 4 0 in ap (compares_v (sheet_of s)) (h.same d ∙ assertion_here s i d l)
+
+  some_below : some_compares (sheet_of s) ≡ any_below (count_of s 4) compares_at
   unfolding some_compares sheet_of table_of
   some_below = simp zero-add at (any_of_table (compares_v (sheet_of s)) 0 (count_of s 4) (of_table assertion_at s 4))
+
+  pub some_one : (i : ℕ) → i < count_of s 4 → compares_at i ≡ true → true ≡ some_compares (sheet_of s)
+  some_one i l e = sym (some_below ∙ any_intro (count_of s 4) compares_at i l e)
+
+  pub some_none : ((i : ℕ) → i < count_of s 4 → compares_at i ≡ false) → false ≡ some_compares (sheet_of s)
+  some_none f = sym (some_below ∙ any_nowhere (count_of s 4) compares_at f)

@@ -1,137 +1,125 @@
--- Bars and slots, a byte at a time.
+-- Which bytes may have a slot, and the slots, a byte at a time.
 -- Assumes nothing.
-use Prim.Native.Nat.{ℕ, ◌+◌, ◌≤◌, ◌<◌}
+use Prim.Native.Nat.{ℕ, ◌+◌, ◌-◌, ◌<◌}
 use mathlib.Core.Path.{◌≡◌, refl, sym, ap, ◌∙◌}
 use mathlib.Core.Logic.{◌≢◌}
-use mathlib.Core.Bool.{true}
+use mathlib.Core.Bool.{Bool, true, false, true≢false}
 use mathlib.Core.List.{List}
 use native.Mathlib.Omega.{arith}
-use native.Mathlib.Decide.{dec_lt, ℕ_discrete}
-use lib.ListN.{length, get_or, set, length-set, get_or-eq_default}
+use native.Mathlib.Decide.{ℕ_discrete}
+use lib.ListN.{length, get_or, set, length-set}
 use lib.Seq.{get_or-set_same, get_or-set_other}
+use Rattle.std.specs.Prelude.{Option, Some, None}
 use Rattle.paper.specs.Sheet.{Sheet, letter, text_of, grammar_of, sheet_of}
-use Rattle.walk.specs.Counts.{Small}
-use Rattle.alike.specs.Slots.{SameRows, BarsOthers, TextBarred, Barred, SlotFor, Slotted, Given}
+use Rattle.alike.specs.Slots.{SameRows, Letters, Without, Free, PlaceFor, Slotted, Given}
 
--- ---- bars
+-- ---- which bytes may have a slot
 
-pub others_more : (s : Sheet) (k v : ℕ) (bars : List ℕ) → k < length bars → BarsOthers s k bars → (v ≡ 0 → letter s k ≡ true) → BarsOthers s (k + 1) (set bars k v)
-others_more s k v bars h o f b l = go (ℕ_discrete b k)
+pub letters_more : (s : Sheet) (k : ℕ) (v : Bool) (free : List Bool) → k < length free → Letters s k free → v ≡ letter s k → Letters s (k + 1) (set free k v)
+letters_more s k v free h o f b l = go (ℕ_discrete b k)
   where
-    go : Dec (b ≡ k) → get_or (set bars k v) b 0 ≡ 0 → letter s b ≡ true
-    go (yes e) = rw (e, get_or-set_same bars k v 0 h) f
-    go (no e) = rw (get_or-set_other bars k b v 0 e) (o b (omega arith))
+    go : Dec (b ≡ k) → get_or (set free k v) b false ≡ true → letter s b ≡ true
+    go (yes e) = rw (e, get_or-set_same free k v false h, f) (λ z. z)
+    go (no e) = rw (get_or-set_other free k b v false e) (o b (omega arith))
 
-pub text_none : (text bars : List ℕ) → TextBarred text bars bars 0
-text_none text bars = record { long = refl; kept = λ b e. e; also = λ b e i l. absurd (omega arith) }
-
-pub text_more : (text bars bars' : List ℕ) (j x : ℕ) → x ≡ get_or text j 0 → x < length bars → TextBarred text bars bars' j → TextBarred text bars (set bars' x 1) (j + 1)
-text_more text bars bars' j x e h t = record {
-  long = simp length-set t.long;
-  kept = λ b z. t.kept b (old b z).0;
-  also = λ b z i l f. go b z i f (ℕ_discrete i j) l;
+pub without_more : (text : List ℕ) (old now : List Bool) (j x : ℕ) → x ≡ get_or text j 0 → x < length now → Without text old now j → Without text old (set now x false) (j + 1)
+without_more text old now j x e h t = record {
+  kept = λ b z. t.kept b (was b z).0;
+  apart = λ b z i l f. go b z i f (ℕ_discrete i j) l;
 }
   where
-    -- a byte that is not barred now was not before, and is not x
-    old : (b : ℕ) → get_or (set bars' x 1) b 0 ≡ 0 → (get_or bars' b 0 ≡ 0) × (b ≡ x → ⊥)
-    old b z = by (ℕ_discrete b x)
+    -- a byte that may have a slot now could before, and is not x
+    was : (b : ℕ) → get_or (set now x false) b false ≡ true → (get_or now b false ≡ true) × (b ≡ x → ⊥)
+    was b z = by (ℕ_discrete b x)
       where
-        by : Dec (b ≡ x) → (get_or bars' b 0 ≡ 0) × (b ≡ x → ⊥)
-        by (yes y) =
-            let one : get_or (set bars' x 1) x 0 ≡ 1 = get_or-set_same bars' x 1 0 (rw t.long h) in
-            absurd (let w : ◌≡◌ {A = ℕ} 1 0 = sym one ∙ rw y at z in omega arith)
-        by (no y) = (sym (get_or-set_other bars' x b 1 0 y) ∙ z, y)
+        by : Dec (b ≡ x) → (get_or now b false ≡ true) × (b ≡ x → ⊥)
+        by (yes y) = absurd (true≢false (sym (rw y at z) ∙ get_or-set_same now x false false h))
+        by (no y) = (sym (get_or-set_other now x b false false y) ∙ z, y)
 
-    go : (b : ℕ) → get_or (set bars' x 1) b 0 ≡ 0 → (i : ℕ) → get_or text i 0 ≡ b → Dec (i ≡ j) → i < j + 1 → ⊥
-    go b z i f (yes y) l = (old b z).1 (sym f ∙ ap (λ (k : ℕ). get_or text k 0) y ∙ sym e)
-    go b z i f (no y) l = t.also b (old b z).0 i (omega arith) f
+    go : (b : ℕ) → get_or (set now x false) b false ≡ true → (i : ℕ) → get_or text i 0 ≡ b → Dec (i ≡ j) → i < j + 1 → ⊥
+    go b z i f (yes y) l = (was b z).1 (sym f ∙ ap (λ (k : ℕ). get_or text k 0) y ∙ sym e)
+    go b z i f (no y) l = t.apart b (was b z).0 i (omega arith) f
 
 -- of a sheet's text
-pub text_barred : (s text bars bars' : List ℕ) → text ≡ text_of s → BarsOthers (sheet_of s) 256 bars → TextBarred text bars bars' (length text) → Barred (sheet_of s) bars'
+pub text_free : (s text : List ℕ) (old now : List Bool) → text ≡ text_of s → Letters (sheet_of s) 256 old → Without text old now (length text) → Free (sheet_of s) now
 unfolding sheet_of grammar_of
-text_barred s text bars bars' e o t =
-    let u : TextBarred (text_of s) bars bars' (length (text_of s)) = rw e at t in
-    record { others = λ b l z. o b l (t.kept b z); text = λ b z. u.also b z }
+text_free s text old now e o t =
+    let u : Without (text_of s) old now (length (text_of s)) = rw e at t in
+    record { letters = λ b l z. o b l (t.kept b z); text = λ b z. u.apart b z }
 
 -- ---- slots
 
-pub no_slot : (ws bars owners : List ℕ) (used b : ℕ) → SlotFor ws bars owners used b 0
-no_slot ws bars owners used b = record { small = omega arith; most = omega arith; free = λ h. absurd (omega arith); like = λ h. absurd (omega arith) }
-
-pub slotted_none : (ws bars owners : List ℕ) (used : ℕ) (slot : List ℕ) → length slot ≡ 256 → length owners ≡ 8 → Slotted ws bars owners used slot 0
-slotted_none ws bars owners used slot l m = record {
+pub slotted_none : (ws : List ℕ) (free : List Bool) (owners : List (Option ℕ)) (slot : List ℕ) → length slot ≡ 256 → length owners ≡ 7 → ((b : ℕ) → get_or slot b 0 ≡ 0) → Slotted ws free owners slot 0
+slotted_none ws free owners slot l m z = record {
   long = l;
-  eight = m;
-  below = λ b h. absurd (omega arith);
-  free = λ b h. absurd (omega arith);
-  like = λ b h. absurd (omega arith);
+  seven = m;
+  below = λ b. omega (arith, z b);
+  later = λ b h. z b;
+  free = λ b h. absurd (omega (arith, z b));
+  like = λ b k h. absurd (omega (arith, z b));
 }
 
-module _ (ws bars owners : List ℕ) (used : ℕ) (slot : List ℕ) (i : ℕ) (s : Slotted ws bars owners used slot i) where
-  -- the owner of slot k becomes byte i, whose rows are those of the old one
-  module _ (k up : ℕ) (f : SlotFor ws bars owners used i k) (byte : i < 256) (rise : used ≤ up) (past : k < up) where
-    new : get_or (set slot i k) i 0 ≡ k
-    new = get_or-set_same slot i k 0 (omega (arith, s.long))
+module _ (ws : List ℕ) (free : List Bool) (owners : List (Option ℕ)) (slot : List ℕ) (i : ℕ) (s : Slotted ws free owners slot i) where
+  -- byte i has none
+  pub slotted_same : Slotted ws free owners slot (i + 1)
+  slotted_same = record { long = s.long; seven = s.seven; below = s.below; later = λ b l. s.later b (omega arith); free = s.free; like = s.like }
 
-    kept : (b : ℕ) → b ≢ i → get_or (set slot i k) b 0 ≡ get_or slot b 0
-    kept b n = get_or-set_other slot i b k 0 n
+  -- byte i becomes the owner at place k, the old one's rows being its own
+  module _ (k : ℕ) (f : PlaceFor ws free owners i k) (byte : i < 256) where
+    new : get_or (set slot i (k + 1)) i 0 ≡ k + 1
+    new = get_or-set_same slot i (k + 1) 0 (omega (arith, s.long))
 
-    owner : get_or (set owners k i) k 0 ≡ i
-    owner = get_or-set_same owners k i 0 (omega (arith, s.eight, f.small))
+    kept : (b : ℕ) → b ≢ i → get_or (set slot i (k + 1)) b 0 ≡ get_or slot b 0
+    kept b n = get_or-set_other slot i b (k + 1) 0 n
 
-    below : (b : ℕ) → b < i + 1 → get_or (set slot i k) b 0 < up
-    below b l = go (ℕ_discrete b i)
+    owner : get_or (set owners k (Some i)) k None ≡ Some i
+    owner = get_or-set_same owners k (Some i) None (omega (arith, s.seven, f.small))
+
+    below : (b : ℕ) → get_or (set slot i (k + 1)) b 0 < 8
+    below b = go (ℕ_discrete b i)
       where
-        go : Dec (b ≡ i) → get_or (set slot i k) b 0 < up
-        go (yes e) = rw (e, new) past
-        go (no e) = rw (kept b e) (omega (arith, s.below b (omega arith)))
+        go : Dec (b ≡ i) → get_or (set slot i (k + 1)) b 0 < 8
+        go (yes e) = rw (e, new) (omega (arith, f.small))
+        go (no e) = rw (kept b e) (s.below b)
 
-    free : (b : ℕ) → b < i + 1 → 0 < get_or (set slot i k) b 0 → get_or bars b 0 ≡ 0
-    free b l = go (ℕ_discrete b i)
+    free' : (b : ℕ) → 0 < get_or (set slot i (k + 1)) b 0 → get_or free b false ≡ true
+    free' b = go (ℕ_discrete b i)
       where
-        go : Dec (b ≡ i) → 0 < get_or (set slot i k) b 0 → get_or bars b 0 ≡ 0
-        go (yes e) = rw (e, new) f.free
-        go (no e) = rw (kept b e) (s.free b (omega arith))
+        go : Dec (b ≡ i) → 0 < get_or (set slot i (k + 1)) b 0 → get_or free b false ≡ true
+        go (yes e) h = rw e f.free
+        go (no e) h = s.free b (rw (kept b e) at h)
 
-    -- an earlier byte of slot m
-    like_old : (b m : ℕ) → b < i → m ≡ get_or slot b 0 → 0 < m → SameRows ws b (get_or (set owners k i) m 0)
-    like_old b m l e h = go (ℕ_discrete m k)
+    like : (b m : ℕ) → get_or (set slot i (k + 1)) b 0 ≡ m + 1 → (c : ℕ) × (get_or (set owners k (Some i)) m None ≡ Some c) × SameRows ws b c
+    like b m = go (ℕ_discrete b i) (ℕ_discrete m k)
       where
-        was : SameRows ws b (get_or owners m 0)
-        was = rw e (s.like b l (rw e at h))
+        go : Dec (b ≡ i) → Dec (m ≡ k) → get_or (set slot i (k + 1)) b 0 ≡ m + 1 → (c : ℕ) × (get_or (set owners k (Some i)) m None ≡ Some c) × SameRows ws b c
+        go (yes e) (yes n) h = (i, rw n owner, rw e (λ q. refl))
+        go (yes e) (no n) h = absurd (n (omega (arith, new, rw e at h)))
+        go (no e) (yes n) h =
+            let u = s.like b k (rw (kept b e, n) at h) in
+            (i, rw n owner, λ q. u.2 q ∙ sym (f.like u.0 u.1 q))
+        go (no e) (no n) h =
+            let u = s.like b m (rw (kept b e) at h) in
+            (u.0, get_or-set_other owners k m (Some i) None n ∙ u.1, u.2)
 
-        go : Dec (m ≡ k) → SameRows ws b (get_or (set owners k i) m 0)
-        go (no n) = rw (get_or-set_other owners k m i 0 n) was
-        go (yes n) =
-            let u : k < used = omega (arith, s.below b l) in
-            let o : get_or (set owners k i) m 0 ≡ i = ap (λ (x : ℕ). get_or (set owners k i) x 0) n ∙ owner in
-            let w : get_or owners m 0 ≡ get_or owners k 0 = ap (λ (x : ℕ). get_or owners x 0) n in
-            rw o (λ q. was q ∙ rw w (sym (f.like (omega arith) u q)))
+    pub slotted_more : Slotted ws free (set owners k (Some i)) (set slot i (k + 1)) (i + 1)
+    slotted_more = record {
+      long = simp length-set s.long;
+      seven = simp length-set s.seven;
+      below = below;
+      later = λ b l. kept b (λ e. omega arith) ∙ s.later b (omega arith);
+      free = free';
+      like = like;
+    }
 
-    like : (b : ℕ) → b < i + 1 → 0 < get_or (set slot i k) b 0 → SameRows ws b (get_or (set owners k i) (get_or (set slot i k) b 0) 0)
-    like b l = go (ℕ_discrete b i)
-      where
-        go : Dec (b ≡ i) → 0 < get_or (set slot i k) b 0 → SameRows ws b (get_or (set owners k i) (get_or (set slot i k) b 0) 0)
-        go (yes e) h = rw (e, new, owner) (λ q. refl)
-        go (no e) h = rw (kept b e) (like_old b (get_or slot b 0) (omega arith) refl (rw (kept b e) at h))
-
-    pub slotted_more : Slotted ws bars (set owners k i) up (set slot i k) (i + 1)
-    slotted_more = record { long = simp length-set s.long; eight = simp length-set s.eight; below = below; free = free; like = like }
-
-pub slotted_given : (ws bars owners : List ℕ) (used : ℕ) (slot : List ℕ) (i : ℕ) → i ≡ 256 → used ≤ 8 → Slotted ws bars owners used slot i → Given ws bars slot
-slotted_given ws bars owners used slot i e few s = record {
-  small = small;
-  free = λ b l. s.free b (omega arith);
-  alike = λ b c l m p d q.
-      let o : get_or owners (get_or slot b 0) 0 ≡ get_or owners (get_or slot c 0) 0 = ap (λ (x : ℕ). get_or owners x 0) d in
-      s.like b (omega arith) p q ∙ rw o (sym (s.like c (omega arith) (omega arith) q));
+pub slotted_given : (ws : List ℕ) (free : List Bool) (owners : List (Option ℕ)) (slot : List ℕ) (i : ℕ) → Slotted ws free owners slot i → Given ws free slot
+slotted_given ws free owners slot i s = record {
+  small = s.below;
+  free = λ b l. s.free b;
+  alike = λ b c l m p d.
+      let k = get_or slot b 0 in
+      let one = s.like b (get_or slot b 0 - 1) (omega arith) in
+      let two = s.like c (get_or slot b 0 - 1) (omega arith) in
+      let e : one.0 ≡ two.0 = (let z = sym one.1 ∙ two.1 in cc) in
+      λ q. one.2 q ∙ rw e (sym (two.2 q));
 }
-  where
-    small : Small slot
-    small b = go (dec_lt b 256)
-      where
-        go : Dec (b < 256) → get_or slot b 0 < 8
-        go (yes l) = omega (arith, s.below b (omega arith))
-        go (no l) =
-            let z : get_or slot b 0 ≡ 0 = get_or-eq_default slot 0 (omega (arith, s.long)) in
-            omega arith

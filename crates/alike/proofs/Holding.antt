@@ -1,21 +1,21 @@
 -- The table of the range rows that hold each byte.
 -- Assumes nothing.
-use Prim.Native.Nat.{ℕ, ◌+◌, ◌*◌, ◌/◌, ◌%◌, ◌≤◌, ◌<◌}
-use mathlib.Core.Path.{◌≡◌, refl, sym, ◌∙◌}
+use Prim.Native.Nat.{ℕ, ◌+◌, ◌-◌, ◌*◌, ◌/◌, ◌%◌, ◌≤◌, ◌<◌}
+use mathlib.Core.Path.{◌≡◌, refl, sym, ap, ◌∙◌}
 use mathlib.Core.Logic.{◌≢◌}
 use mathlib.Core.Bool.{Bool, true, false, ◌&&◌, ◌||◌, and-false}
 use mathlib.Core.List.{List}
 use native.Mathlib.Omega.{arith}
-use native.Mathlib.Nat.{add-zero}
 use native.Mathlib.Decide.{dec_lt, ℕ_discrete}
 use lib.Dec.{eqb, ltb, leb}
-use lib.ListN.{length, get_or, replicate, length-replicate, get_or-replicate, get_or-eq_default}
+use lib.Seq.{get_or-take, get_or-drop}
+use lib.ListN.{length, get_or, take, drop, replicate, length-replicate, get_or-replicate, get_or-eq_default}
 use borrow.Author.Tests.{lt-ltb, le-ltb, le-leb, lt-leb, eq-eqb, ne_eqb}
 use Rattle.paper.specs.Rows.{Range, Grammar, row, no_row}
 use Rattle.paper.proofs.Tests.{or_false}
 use Rattle.workspace.specs.Bits.{bit, bit_at, set_bit, word_at}
 use Rattle.workspace.proofs.Bits.{length_set_bit, set_bit_same, set_bit_other, set_bit_apart}
-use Rattle.workspace.proofs.Words.{bit_zero, of_four}
+use Rattle.workspace.proofs.Words.{bit_zero}
 use Rattle.sheet_contents.specs.Ranges.{holds_byte}
 use Rattle.alike.specs.Slots.{between, Added, Holders, SameRows}
 
@@ -121,14 +121,16 @@ module _ (g : Grammar) where
           rw n (none_held_lem b ∙ sym (none_held_lem c))
 
 -- entries of the same four words
-pub words_same : (ws : List ℕ) (b c : ℕ) → get_or ws (4 * b) 0 ≡ get_or ws (4 * c) 0 → word_at ws b 1 ≡ word_at ws c 1 → word_at ws b 2 ≡ word_at ws c 2 → word_at ws b 3 ≡ word_at ws c 3
-    → SameRows ws b c
+pub words_same : (ws : List ℕ) (b c : ℕ) → take (4 * b + 4 - 4 * b) (drop (4 * b) ws) ≡ take (4 * c + 4 - 4 * c) (drop (4 * c) ws) → SameRows ws b c
 unfolding bit_at
-words_same ws b c e0 e1 e2 e3 q = go (dec_lt q 256)
+words_same ws b c e q = go (dec_lt q 256)
   where
-    word : (k : ℕ) → k < 4 → word_at ws b k ≡ word_at ws c k
-    word = of_four (λ k. word_at ws b k ≡ word_at ws c k) (rw (add-zero, add-zero) e0) e1 e2 e3
+    word : (a k : ℕ) → k < 4 → get_or (take (4 * a + 4 - 4 * a) (drop (4 * a) ws)) k 0 ≡ word_at ws a k
+    word a k l = get_or-take (4 * a + 4 - 4 * a) (drop (4 * a) ws) k 0 (omega arith) ∙ get_or-drop (4 * a) ws k 0
+
+    same : (k : ℕ) → k < 4 → word_at ws b k ≡ word_at ws c k
+    same k l = sym (word b k l) ∙ ap (λ (x : List ℕ). get_or x k 0) e ∙ word c k l
 
     go : Dec (q < 256) → (ltb q 256 && eqb (bit (word_at ws b (q / 64)) (q % 64)) 1) ≡ (ltb q 256 && eqb (bit (word_at ws c (q / 64)) (q % 64)) 1)
-    go (yes l) = rw (word (q / 64) (omega arith))
+    go (yes l) = rw (same (q / 64) (omega arith))
     go (no l) = rw (le-ltb q 256 (omega arith))

@@ -1,5 +1,5 @@
 -- What the functions that give slots promise to each other.
-use Rattle.std.specs.Prelude.{ℕ, ◌≤◌, ◌<◌, ◌≡◌, Bool, true, ◌&&◌, ◌||◌, List, eqb, ltb, leb, length, get_or}
+use Rattle.std.specs.Prelude.{ℕ, ◌+◌, ◌≤◌, ◌<◌, ◌≡◌, Bool, true, false, ◌&&◌, ◌||◌, List, Option, Some, None, eqb, ltb, leb, length, get_or}
 use Rattle.paper.specs.Rows.{Grammar, row}
 use Rattle.paper.specs.Sheet.{Sheet, letter}
 use Rattle.workspace.specs.Bits.{bit_at}
@@ -27,52 +27,41 @@ pub record Holders (g : Grammar) (n : ℕ) (ws : List ℕ) : Type 0 where
 abbrev pub SameRows : List ℕ → (b c : ℕ) → Type 0
 SameRows ws b c = (q : ℕ) → bit_at ws b q ≡ bit_at ws c q
 
--- ---- a byte for each byte: 0 where it may have a slot
+-- ---- which bytes may have a slot
 
--- no byte below k may that is no letter
-abbrev pub BarsOthers : Sheet → ℕ → List ℕ → Type 0
-BarsOthers s k bars = (b : ℕ) → b < k → get_or bars b 0 ≡ 0 → letter s b ≡ true
+-- of the bytes below k, letters alone
+abbrev pub Letters : Sheet → ℕ → List Bool → Type 0
+Letters s k free = (b : ℕ) → b < k → get_or free b false ≡ true → letter s b ≡ true
 
--- nor one that is among the first j bytes of the text
-abbrev pub BarsText : List ℕ → ℕ → List ℕ → Type 0
-BarsText text j bars = (b : ℕ) → get_or bars b 0 ≡ 0 → (i : ℕ) → i < j → get_or text i 0 ≡ b → ⊥
-
--- what was barred still is, and the text's bytes are
-pub record TextBarred (text bars bars' : List ℕ) (j : ℕ) : Type 0 where
-  pub long : length bars' ≡ length bars
-  pub kept : (b : ℕ) → get_or bars' b 0 ≡ 0 → get_or bars b 0 ≡ 0
-  pub also : BarsText text j bars'
+-- what may have a slot could before, and is none of the first j bytes of the text
+pub record Without (text : List ℕ) (old now : List Bool) (j : ℕ) : Type 0 where
+  pub kept : (b : ℕ) → get_or now b false ≡ true → get_or old b false ≡ true
+  pub apart : (b : ℕ) → get_or now b false ≡ true → (i : ℕ) → i < j → get_or text i 0 ≡ b → ⊥
 
 -- a byte that may have a slot is a letter and none of the text's
-pub record Barred (s : Sheet) (bars : List ℕ) : Type 0 where
-  pub others : BarsOthers s 256 bars
-  pub text : (b : ℕ) → get_or bars b 0 ≡ 0 → Absent s.grammar.text b
+pub record Free (s : Sheet) (free : List Bool) : Type 0 where
+  pub letters : Letters s 256 free
+  pub text : (b : ℕ) → get_or free b false ≡ true → Absent s.grammar.text b
 
--- ---- slots, each with the last byte that was given it: its owner
+-- ---- slots, each with the last byte that was given it: its owner. The owner of slot k + 1 stands at place k.
 
--- k is an owner's slot, the owner's rows being those of b; or past them
-pub record OwnerLike (ws owners : List ℕ) (used b k : ℕ) : Type 0 where
-  pub least : 1 ≤ k
-  pub most : k ≤ used
-  pub like : k < used → SameRows ws b (get_or owners k 0)
-
--- k is a slot for b, the slots below `used` having owners; or 0
-pub record SlotFor (ws bars owners : List ℕ) (used b k : ℕ) : Type 0 where
-  pub small : k < 8
-  pub most : k ≤ used
-  pub free : 0 < k → get_or bars b 0 ≡ 0
-  pub like : 0 < k → k < used → SameRows ws b (get_or owners k 0)
+-- k is a place for b: it has no owner, or one whose rows are those of b
+pub record PlaceFor (ws : List ℕ) (may : List Bool) (owners : List (Option ℕ)) (b k : ℕ) : Type 0 where
+  pub small : k < 7
+  pub free : get_or may b false ≡ true
+  pub like : (c : ℕ) → get_or owners k None ≡ Some c → SameRows ws b c
 
 -- the first i bytes have their slots
-pub record Slotted (ws bars owners : List ℕ) (used : ℕ) (slot : List ℕ) (i : ℕ) : Type 0 where
+pub record Slotted (ws : List ℕ) (may : List Bool) (owners : List (Option ℕ)) (slot : List ℕ) (i : ℕ) : Type 0 where
   pub long : length slot ≡ 256
-  pub eight : length owners ≡ 8
-  pub below : (b : ℕ) → b < i → get_or slot b 0 < used
-  pub free : (b : ℕ) → b < i → 0 < get_or slot b 0 → get_or bars b 0 ≡ 0
-  pub like : (b : ℕ) → b < i → 0 < get_or slot b 0 → SameRows ws b (get_or owners (get_or slot b 0) 0)
+  pub seven : length owners ≡ 7
+  pub below : (b : ℕ) → get_or slot b 0 < 8
+  pub later : (b : ℕ) → i ≤ b → get_or slot b 0 ≡ 0
+  pub free : (b : ℕ) → 0 < get_or slot b 0 → get_or may b false ≡ true
+  pub like : (b k : ℕ) → get_or slot b 0 ≡ k + 1 → (c : ℕ) × (get_or owners k None ≡ Some c) × SameRows ws b c
 
 -- bytes of one slot may have it, and the same rows hold them
-pub record Given (ws bars slot : List ℕ) : Type 0 where
+pub record Given (ws : List ℕ) (may : List Bool) (slot : List ℕ) : Type 0 where
   pub small : Small slot
-  pub free : (b : ℕ) → b < 256 → 0 < get_or slot b 0 → get_or bars b 0 ≡ 0
+  pub free : (b : ℕ) → b < 256 → 0 < get_or slot b 0 → get_or may b false ≡ true
   pub alike : (b c : ℕ) → b < 256 → c < 256 → 0 < get_or slot b 0 → get_or slot b 0 ≡ get_or slot c 0 → SameRows ws b c

@@ -4,13 +4,13 @@
 mod compare;
 mod ranges;
 
-ghost use Rattle.std.specs.Prelude.{◌≡◌, true, ◌≤◌, ◌<◌, length};
-ghost use Rattle.paper.specs.Sheet.{letter, sheet_of};
+ghost use Rattle.std.specs.Prelude.{◌≡◌, ◌<◌, length, IfSome};
+ghost use Rattle.paper.specs.Sheet.{sheet_of};
 ghost use Rattle.paper.specs.Opens.{opens};
 ghost use Rattle.sheet.specs.Good.{Good};
 ghost use Rattle.walk.specs.Counts.{Small};
 ghost use Rattle.walk.specs.Progress.{Classes};
-ghost use Rattle.alike.specs.Slots.{BarsOthers, TextBarred, Barred, OwnerLike, SlotFor, Given};
+ghost use Rattle.alike.specs.Slots.{Letters, Without, Free, PlaceFor, Given};
 
 // A slot for each byte: letters of one slot are alike; slot 0 says nothing.
 #[derive(Clone, Copy)]
@@ -18,143 +18,73 @@ pub struct Slots {
     pub of: [u8; 256],
 }
 
-// 0 for each byte that may have a slot.
-#[derive(Clone, Copy)]
-struct Bars {
-    of: [u8; 256],
-}
-
-fn bar_of(s: &[u8], b: u8) -> u8
+// Every letter may have a slot, and no other byte.
+fn letters(s: &[u8]) -> [bool; 256]
     requires { Good s.now }
-    ensures { result ≡ 0 → letter (sheet_of s.now) b ≡ true }
+    ensures { Letters (sheet_of s.now) 256 result }
 {
-    if sheet::is_letter(s, b) {
-        return 0;
+    let mut free = [false; 256];
+    for (b, may) in free.iter_mut().enumerate() {
+        *may = sheet::is_letter(s, b as u8);
     }
-    1
+    free
 }
 
-// No byte but a letter may have one.
-fn bar_others(s: &[u8]) -> Bars
+// No byte of the text may.
+fn without(mut free: [bool; 256], text: &[u8]) -> [bool; 256]
+    ensures { Without text.now free result (length text.now) }
+{
+    for b in text {
+        free[usize::from(*b)] = false;
+    }
+    free
+}
+
+// Which bytes may have a slot.
+fn free(s: &[u8]) -> [bool; 256]
     requires { Good s.now }
-    ensures { BarsOthers (sheet_of s.now) 256 result.of }
+    ensures { Free (sheet_of s.now) result }
 {
-    let mut bars = Bars { of: [0u8; 256] };
-    let mut b: usize = 0;
-    while b < 256 {
-        bars.of[b] = bar_of(s, b as u8);
-        b += 1;
-    }
-    bars
-}
-
-// No byte of the text either.
-fn bar_text(mut bars: Bars, text: &[u8]) -> Bars
-    ensures { TextBarred text.now bars.of result.of (length text.now) }
-{
-    let mut j: usize = 0;
-    while j < text.len() {
-        let b = numbers::wide(text[j]);
-        bars.of[b] = 1;
-        j += 1;
-    }
-    bars
-}
-
-fn barred(s: &[u8]) -> Bars
-    requires { Good s.now }
-    ensures { Barred (sheet_of s.now) result.of }
-{
-    let bars = bar_others(s);
-    bar_text(bars, sheet::text_of(s))
-}
-
-// The slot of the first owner whose rows are those of b, or the first slot with no owner.
-fn owner_like(ws: &[u64], owners: [u8; 8], used: usize, b: usize) -> usize
-    requires { (length ws.now ≡ 1024) × (1 ≤ used) × (used ≤ 8) × (b < 256) }
-    ensures { OwnerLike ws.now owners used b result }
-{
-    let mut k: usize = 1;
-    while k < used {
-        if ranges::same(ws, b, numbers::wide(owners[k])) {
-            return k;
-        }
-        k += 1;
-    }
-    k
-}
-
-// Whether c may have a slot and has the rows of b.
-fn mate(ws: &[u64], bars: &[u8; 256], b: usize, c: usize) -> bool
-    requires { (length ws.now ≡ 1024) × (b < 256) × (c < 256) }
-{
-    if bars[c] == 0 {
-        return ranges::same(ws, b, c);
-    }
-    false
+    without(letters(s), sheet::text_of(s))
 }
 
 // Whether a later byte would share a slot with b: a slot for one byte is of no use, though it would be right.
-fn has_mate(ws: &[u64], bars: &[u8; 256], b: usize) -> bool
+fn has_mate(ws: &[u64], free: &[bool; 256], b: usize) -> bool
     requires { (length ws.now ≡ 1024) × (b < 256) }
 {
-    let mut c = b + 1;
-    while c < 256 {
-        if mate(ws, bars, b, c) {
-            return true;
+    (b + 1..256).any(|c| free[c] && ranges::same(ws, b, c))
+}
+
+// The place of an owner whose rows are those of b, or the first place with no owner if b has a mate.
+fn place_for(ws: &[u64], free: &[bool; 256], owners: &[Option<u8>; 7], b: usize) -> Option<usize>
+    requires { (length ws.now ≡ 1024) × (b < 256) }
+    ensures { IfSome result (λ k. PlaceFor ws.now free.now owners.now b k) }
+{
+    if !free[b] {
+        return None;
+    }
+    for (k, owner) in owners.iter().enumerate() {
+        match *owner {
+            Some(c) if ranges::same(ws, b, usize::from(c)) => return Some(k),
+            Some(_) => {}
+            None => return has_mate(ws, free, b).then_some(k),
         }
-        c += 1;
     }
-    false
-}
-
-// A slot for b: that of an owner like it, or a new one if there is one left; or 0.
-fn slot_for(ws: &[u64], bars: &[u8; 256], owners: [u8; 8], used: usize, b: usize) -> usize
-    requires { (length ws.now ≡ 1024) × (1 ≤ used) × (used ≤ 8) × (b < 256) }
-    ensures { SlotFor ws.now bars.now owners used b result }
-{
-    if bars[b] != 0 {
-        return 0;
-    }
-    let k = owner_like(ws, owners, used, b);
-    if k < used {
-        return k;
-    }
-    if used == 8 {
-        return 0;
-    }
-    if has_mate(ws, bars, b) {
-        return used;
-    }
-    0
-}
-
-// The slots that have owners, after slot k was given.
-fn used_with(used: usize, k: usize) -> usize
-    requires { (k ≤ used) × (k < 8) × (used ≤ 8) }
-    ensures { (used ≤ result) × (k < result) × (result ≤ 8) }
-{
-    if k == used {
-        return used + 1;
-    }
-    used
+    None
 }
 
 // Slots for the bytes that may have one, by their rows.
-fn given(ws: &[u64], bars: &[u8; 256]) -> Slots
+fn given(ws: &[u64], free: &[bool; 256]) -> Slots
     requires { length ws.now ≡ 1024 }
-    ensures { Given ws.now bars.now result.of }
+    ensures { Given ws.now free.now result.of }
 {
-    let mut slots = Slots { of: [0u8; 256] };
-    let mut owners = [0u8; 8];
-    let mut used: usize = 1;
-    let mut b: usize = 0;
-    while b < 256 {
-        let k = slot_for(ws, bars, owners, used, b);
-        slots.of[b] = k as u8;
-        owners[k] = b as u8;
-        used = used_with(used, k);
-        b += 1;
+    let mut slots = Slots { of: [0; 256] };
+    let mut owners = [None; 7];
+    for b in 0..256 {
+        if let Some(k) = place_for(ws, free, &owners, b) {
+            slots.of[b] = (k + 1) as u8;
+            owners[k] = Some(b as u8);
+        }
     }
     slots
 }
@@ -165,10 +95,9 @@ pub fn slots_of(s: &[u8]) -> Slots
     ensures { Classes (opens (sheet_of s.now)) result.of × Small result.of }
 {
     if compare::some_compares(s) {
-        return Slots { of: [0u8; 256] };
+        return Slots { of: [0; 256] };
     }
-    let mut ws = [0u64; 1024];
+    let mut ws = [0; 1024];
     ranges::hold_rows(s, &mut ws);
-    let bars = barred(s);
-    given(&ws, &bars.of)
+    given(&ws, &free(s))
 }

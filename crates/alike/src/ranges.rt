@@ -16,10 +16,8 @@ fn hold(ws: &mut [u64], r: usize, lo: usize, hi: usize)
     requires { (length ws.old ≡ 1024) × (r < 256) × (lo ≤ hi) × (hi < 256) }
     ensures { Added (holds_byte (Range lo hi)) r ws.old ws.new }
 {
-    let mut x = lo;
-    while x <= hi {
-        workspace::set(ws, x, r);
-        x += 1;
+    for b in lo..hi + 1 {
+        workspace::set(ws, b, r);
     }
 }
 
@@ -28,14 +26,9 @@ fn hold_row(s: &[u8], ws: &mut [u64], rows: Table, r: usize)
     requires { Good s.now × (length ws.old ≡ 1024) × TableOf s.now 2 rows × (r < rows.count) }
     ensures { Added (holds_byte (row (grammar_of s.now) r)) r ws.old ws.new }
 {
-    let x = sheet::row_at(s, rows, r);
-    match x {
-        Row::Empty => {}
+    match sheet::row_at(s, rows, r) {
         Row::Range(lo, hi) => hold(ws, r, lo, hi),
-        Row::Text(_, _) => {}
-        Row::Alt(_, _) => {}
-        Row::Seq(_, _) => {}
-        Row::Star(_) => {}
+        Row::Empty | Row::Text(..) | Row::Alt(..) | Row::Seq(..) | Row::Star(_) => {}
     }
 }
 
@@ -45,11 +38,8 @@ pub fn hold_rows(s: &[u8], ws: &mut [u64])
     ensures { Holders (grammar_of s.now) (count_of s.now 2) ws.new }
 {
     let rows = sheet_trailer::table_of(s, 2);
-    let n = rows.count;
-    let mut r: usize = 0;
-    while r < n {
+    for r in 0..rows.count {
         hold_row(s, ws, rows, r);
-        r += 1;
     }
 }
 
@@ -58,16 +48,5 @@ pub fn same(ws: &[u64], b: usize, c: usize) -> bool
     requires { (length ws.now ≡ 1024) × (b < 256) × (c < 256) }
     ensures { result ≡ true → SameRows ws.now b c }
 {
-    let i = 4 * b;
-    let j = 4 * c;
-    if ws[i] != ws[j] {
-        return false;
-    }
-    if ws[i + 1] != ws[j + 1] {
-        return false;
-    }
-    if ws[i + 2] != ws[j + 2] {
-        return false;
-    }
-    ws[i + 3] == ws[j + 3]
+    ws[4 * b..4 * b + 4] == ws[4 * c..4 * c + 4]
 }

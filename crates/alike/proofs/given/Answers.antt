@@ -1,19 +1,20 @@
-use Rattle.alike.proofs.Giving.{slotted_none, slotted_more, slotted_given}
-use borrow.Author.Rules.{rules}
+use mathlib.Core.Path.{refl}
 use native.Mathlib.Omega.{arith}
+use Rattle.alike.proofs.Holding.{zero_at}
+use Rattle.alike.proofs.Giving.{slotted_none, slotted_same, slotted_more, slotted_given}
+use Rattle.alike.proofs.given.Goals.{in-Some, in_default}
 use Rattle.alike.proofs.given.Goals as goal
 
 pub loop-b-init : goal.loop-b-init
-loop-b-init c = (omega arith, omega arith, omega arith, slotted_none _ _ _ _ _ (search rules) (search rules))
+loop-b-init c = slotted_none _ _ _ _ refl refl (zero_at 256)
 
 pub loop-b-preserved : goal.loop-b-preserved
 loop-b-preserved c =
     let l = c.loop-b in
-    let k = c.slot_for-k in
-    let u = c.used_with-used.ensures in
-    (omega arith, omega arith, u.2, slotted_more _ _ _ _ _ l.b l.invariant.3 k.result c.used_with-used.result k.ensures (omega arith) u.0 u.1)
+    elim c.match-place_for.branch [
+      | in-Some w ↦ rw (w.slots-is, w.owners-is) (slotted_more _ _ _ _ _ l.invariant w.in-Some.k w.in-Some.ensures (omega arith))
+      | in_default w ↦ rw (w.slots-is, w.owners-is) (slotted_same _ _ _ _ _ l.invariant)
+    ]
 
 pub returns : goal.returns
-returns c =
-    let l = c.loop-b in
-    slotted_given _ _ _ _ _ l.b (omega arith) l.invariant.2 l.invariant.3
+returns c = slotted_given _ _ _ _ _ c.loop-b.invariant

@@ -14,4 +14,4 @@ hold_rows-requires c = (c.requires, holders_start _ 1024 refl)
 pub returns : goal.returns
 returns c =
     let g = c.given.ensures in
-    (given_classes c.args.s.now c.requires _ _ _ (sym c.some_compares.ensures ∙ c.if-some_compares.false) c.hold_rows.ensures c.barred-bars.ensures g, g.small)
+    (given_classes c.args.s.now c.requires _ _ _ (sym c.some_compares.ensures ∙ c.if-some_compares.false) c.hold_rows.ensures c.free.ensures g, g.small)

@@ -1,11 +1,7 @@
-use Prim.Native.Nat.{◌-◌, ◌≤◌}
 use Rattle.paper.specs.Sheet.{grammar_of}
 use Rattle.alike.specs.Slots.{Holders}
 use Rattle.alike.proofs.ranges.hold_rows.Given as goal
 
 -- the rows below r are in the entries of the bytes that they hold
 abbrev pub invariant-loop-r : goal.invariant-loop-r
-invariant-loop-r l = (l.r ≤ l.n) × Holders (grammar_of l.s) l.r l.ws
-
-abbrev pub decreases-loop-r : goal.decreases-loop-r
-decreases-loop-r l = l.n - l.r
+invariant-loop-r l = Holders (grammar_of l.s) l.r l.ws

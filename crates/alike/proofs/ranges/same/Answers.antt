@@ -1,17 +1,11 @@
-use mathlib.Core.Path.{sym}
-use mathlib.Core.Bool.{true≢false}
-use borrow.Author.Tests.{eqb-true}
+use Prim.Native.Nat.{◌+◌, ◌-◌, ◌*◌}
+use lib.ListN.{take, drop}
+use Rattle.std.proofs.lemmas.Slice.Eq.{slice_eq-Decides}
+use Rattle.std.proofs.lemmas.Bool.Decides.{Decides-eqb}
 use Rattle.alike.proofs.Holding.{words_same}
 use Rattle.alike.proofs.ranges.same.Goals as goal
 
-pub returns-then-ws-i : goal.returns-then-ws-i
-returns-then-ws-i c e = absurd (true≢false (sym e))
-
-pub returns-then-ws-i-2 : goal.returns-then-ws-i-2
-returns-then-ws-i-2 c e = absurd (true≢false (sym e))
-
-pub returns-then-ws-i-3 : goal.returns-then-ws-i-3
-returns-then-ws-i-3 c e = absurd (true≢false (sym e))
-
 pub returns : goal.returns
-returns c e = words_same _ _ _ c.if-ws-i.false c.if-ws-i-2.false c.if-ws-i-3.false (eqb-true _ _ e)
+returns c e =
+    let a = c.args in
+    words_same _ _ _ ((slice_eq-Decides Decides-eqb (take (4 * a.b + 4 - 4 * a.b) (drop (4 * a.b) a.ws.now)) (take (4 * a.c + 4 - 4 * a.c) (drop (4 * a.c) a.ws.now)) _ c.eq.ensures).0 e)
