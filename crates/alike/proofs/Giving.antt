@@ -1,44 +1,19 @@
 -- Which bytes may have a slot, and the slots, a byte at a time.
 -- Assumes nothing.
 use Prim.Native.Nat.{ℕ, ◌+◌, ◌-◌, ◌<◌}
-use mathlib.Core.Path.{◌≡◌, refl, sym, ap, ◌∙◌}
+use mathlib.Core.Path.{◌≡◌, refl, sym, ◌∙◌}
 use mathlib.Core.Logic.{◌≢◌}
-use mathlib.Core.Bool.{Bool, true, false, true≢false}
+use mathlib.Core.Bool.{Bool, true, false}
 use mathlib.Core.List.{List}
 use native.Mathlib.Omega.{arith}
 use native.Mathlib.Decide.{ℕ_discrete}
 use lib.ListN.{length, get_or, set, length-set}
 use lib.Seq.{get_or-set_same, get_or-set_other}
 use Rattle.std.specs.Prelude.{Option, Some, None}
-use Rattle.paper.specs.Sheet.{Sheet, letter, text_of, grammar_of, sheet_of}
+use Rattle.paper.specs.Sheet.{text_of, grammar_of, sheet_of}
 use Rattle.alike.specs.Slots.{SameRows, Letters, Without, Free, PlaceFor, Slotted, Given}
 
 -- ---- which bytes may have a slot
-
-pub letters_more : (s : Sheet) (k : ℕ) (v : Bool) (free : List Bool) → k < length free → Letters s k free → v ≡ letter s k → Letters s (k + 1) (set free k v)
-letters_more s k v free h o f b l = go (ℕ_discrete b k)
-  where
-    go : Dec (b ≡ k) → get_or (set free k v) b false ≡ true → letter s b ≡ true
-    go (yes e) = rw (e, get_or-set_same free k v false h, f) (λ z. z)
-    go (no e) = rw (get_or-set_other free k b v false e) (o b (omega arith))
-
-pub without_more : (text : List ℕ) (old now : List Bool) (j x : ℕ) → x ≡ get_or text j 0 → x < length now → Without text old now j → Without text old (set now x false) (j + 1)
-without_more text old now j x e h t = record {
-  kept = λ b z. t.kept b (was b z).0;
-  apart = λ b z i l f. go b z i f (ℕ_discrete i j) l;
-}
-  where
-    -- a byte that may have a slot now could before, and is not x
-    was : (b : ℕ) → get_or (set now x false) b false ≡ true → (get_or now b false ≡ true) × (b ≡ x → ⊥)
-    was b z = by (ℕ_discrete b x)
-      where
-        by : Dec (b ≡ x) → (get_or now b false ≡ true) × (b ≡ x → ⊥)
-        by (yes y) = absurd (true≢false (sym (rw y at z) ∙ get_or-set_same now x false false h))
-        by (no y) = (sym (get_or-set_other now x b false false y) ∙ z, y)
-
-    go : (b : ℕ) → get_or (set now x false) b false ≡ true → (i : ℕ) → get_or text i 0 ≡ b → Dec (i ≡ j) → i < j + 1 → ⊥
-    go b z i f (yes y) l = (was b z).1 (sym f ∙ ap (λ (k : ℕ). get_or text k 0) y ∙ sym e)
-    go b z i f (no y) l = t.apart b (was b z).0 i (omega arith) f
 
 -- of a sheet's text
 pub text_free : (s text : List ℕ) (old now : List Bool) → text ≡ text_of s → Letters (sheet_of s) 256 old → Without text old now (length text) → Free (sheet_of s) now

@@ -12,7 +12,6 @@ use lib.Seq.{get_or-take, get_or-drop}
 use lib.ListN.{length, get_or, take, drop, replicate, length-replicate, get_or-replicate, get_or-eq_default}
 use borrow.Author.Tests.{lt-ltb, le-ltb, le-leb, lt-leb, eq-eqb, ne_eqb}
 use Rattle.paper.specs.Rows.{Range, Grammar, row, no_row}
-use Rattle.paper.proofs.Tests.{or_false}
 use Rattle.workspace.specs.Bits.{bit, bit_at, set_bit, word_at}
 use Rattle.workspace.proofs.Bits.{length_set_bit, set_bit_same, set_bit_other, set_bit_apart}
 use Rattle.workspace.proofs.Words.{bit_zero}
@@ -26,16 +25,6 @@ added_none test r ws h = record { long = refl; bits = λ b q l m. rw (h b, and-f
 
 pub added_as : (test other : ℕ → Bool) (r : ℕ) (ws ws' : List ℕ) → ((b : ℕ) → test b ≡ other b) → Added test r ws ws' → Added other r ws ws'
 added_as test other r ws ws' h a = record { long = a.long; bits = λ b q l m. rw (← h b) (a.bits b q l m) }
-
-between_none : (lo b : ℕ) → between lo lo b ≡ false
-between_none lo b = go (dec_lt b lo)
-  where
-    go : Dec (b < lo) → between lo lo b ≡ false
-    go (yes l) = rw (lt-leb lo b l)
-    go (no l) = rw (le-leb lo b (omega arith), le-ltb b lo (omega arith))
-
-pub added_start : (lo r : ℕ) (ws : List ℕ) → Added (between lo lo) r ws ws
-added_start lo r ws = added_none (between lo lo) r ws (between_none lo)
 
 -- below x + 1 and at most x are the same
 ltb_more : (b x : ℕ) → ltb b (x + 1) ≡ leb b x
@@ -97,17 +86,6 @@ pub holders_start : (g : Grammar) (n : ℕ) → n ≡ 1024 → Holders g 0 (repl
 holders_start g n e = record { long = length-replicate n 0 ∙ e; bits = λ b q l m. zero_bit n b q ∙ rw (le-ltb q 0 (omega arith)) }
 
 module _ (g : Grammar) where
-  pub holders_more : (i : ℕ) (ws ws' : List ℕ) → Holders g i ws → Added (holds_byte (row g i)) i ws ws' → Holders g (i + 1) ws'
-  holders_more i ws ws' h a = record { long = a.long ∙ h.long; bits = bits }
-    where
-      bits : (b q : ℕ) → b < 256 → q < 256 → bit_at ws' b q ≡ (ltb q (i + 1) && holds_byte (row g q) b)
-      bits b q l m = rw (a.bits b q l m, h.bits b q l m) (go (ℕ_discrete q i) (dec_lt q i))
-        where
-          go : Dec (q ≡ i) → Dec (q < i) → ((eqb q i && holds_byte (row g i) b) || (ltb q i && holds_byte (row g q) b)) ≡ (ltb q (i + 1) && holds_byte (row g q) b)
-          go (yes e) y = rw (e, eq-eqb i i refl, le-ltb i i (omega arith), lt-ltb i (i + 1) (omega arith)) (or_false (holds_byte (row g i) b))
-          go (no e) (yes y) = rw (ne_eqb q i e, lt-ltb q i y, lt-ltb q (i + 1) (omega arith))
-          go (no e) (no y) = rw (ne_eqb q i e, le-ltb q i (omega arith), le-ltb q (i + 1) (omega arith))
-
   -- bytes of the same entry are held by the same rows
   pub rows_same : (ws : List ℕ) → length g.rows ≤ 256 → Holders g (length g.rows) ws → (b c : ℕ) → b < 256 → c < 256 → SameRows ws b c
       → (r : ℕ) → holds_byte (row g r) b ≡ holds_byte (row g r) c

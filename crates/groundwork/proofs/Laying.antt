@@ -24,7 +24,7 @@ use Rattle.sheet_trailer.specs.declared.Table.{Table}
 use Rattle.rows.specs.Sets.{Nulls, Reached, RowsAt}
 use Rattle.sheet.proofs.Rows.{rows_few, rows_all}
 use Rattle.groundwork.specs.Ground.{Ground, pairs_at, pair_word, Splits, some_letter}
-use Rattle.groundwork.specs.Laying.{Below, Closures, Ranges, LettersIn, PairOf, Pairs, LengthTold, Lengths}
+use Rattle.groundwork.specs.Laying.{Below, Closures, Ranges, LettersIn, PairOf, Pairs, Lengths}
 use Rattle.groundwork.proofs.Frame.{below_then, below_less, below_set, below_copied, below_bit, put_same, put_other}
 use Rattle.groundwork.proofs.ByKind.{no_row_letter, splits_which, Paired}
 
@@ -52,9 +52,6 @@ module _ (s : Sheet) (g : Grammar) (ws : List ℕ) (long : length ws ≡ 1294) w
 -- ---- the pairs
 
 module _ (g : Grammar) where
-  pub pairs_none : (ws : List ℕ) → Pairs g 0 0 ws
-  pairs_none ws = record { few = omega arith; pairs = λ i h. absurd (not-suc-le-zero h); all = λ q a b h. absurd (not-suc-le-zero h) }
-
   pub pairs_more : {n j m : ℕ} {old now : List ℕ} → Pairs g n j old → Paired n (row g n) j m old now → Pairs g (n + 1) m now
   pairs_more {n} {j} {m} {old} {now} p u = record {
     few = omega (arith, p.few, u.most);
@@ -68,15 +65,6 @@ module _ (g : Grammar) where
         let z = u.all a b (subst (λ (k : ℕ). Splits k (row g k) a b) e x) in
         (j, z.0, z.1 ∙ ap (λ (k : ℕ). pair_word k a b) (sym e)));
   }
-
-  -- ---- the lengths of text rows
-
-  pub lengths_more : (n x y : ℕ) → Lengths g n x → LengthTold (row g n) x y → Lengths g (n + 1) y
-  lengths_more n x y f u q off m h e l =
-      lt_or_le q n (λ k. u.kept m (f q off m k e l)) (λ k. u.told off m (ap (row g) (same k) ∙ e) l)
-    where
-      same : n ≤ q → n ≡ q
-      same k = omega arith
 
 -- ---- the whole
 
