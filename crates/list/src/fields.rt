@@ -1,17 +1,8 @@
 // Readers of a cut list's numbers: its trailer and its options.
 ghost use Rattle.std.specs.Prelude.{◌≡◌, true, ◌&&◌, ◌⊎◌, ◌+◌, ◌*◌, ◌-◌, ◌≤◌, ◌<◌, length, leb, ltb, MatchOption};
-ghost use Rattle.paper.specs.Bytes.{mark_at};
 ghost use Rattle.paper.specs.Trailer.{limit};
 ghost use Rattle.paper.specs.Gate.{n_of, rows_of, root_of, trailer_ok, opt_of};
 ghost use Rattle.list.specs.Read.{Trailed, Fielded, byte_of, option_of};
-
-// The mark `CUT1` at the list's end.
-fn mark_ok(list: &[u8]) -> bool
-    requires { 20 ≤ length list.now }
-    ensures { result ≡ mark_at list.now (length list.now - 4) 67 85 84 49 }
-{
-    numbers::mark_at(list, list.len() - 4, b"CUT1")
-}
 
 // The trailer's numbers are within their limits, and the list has room for it.
 fn counts_ok(list: &[u8]) -> bool
@@ -31,7 +22,7 @@ pub fn trailer_ok(list: &[u8]) -> bool
     ensures { result ≡ trailer_ok list.now }
 {
     let len = list.len();
-    mark_ok(list)
+    numbers::mark_at(list, len - 4, b"CUT1")
         && numbers::u32_at(list, len - 8) == len
         && list[len - 11..len - 8] == [0, 0, 0]
         && counts_ok(list)
