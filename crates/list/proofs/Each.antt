@@ -1,9 +1,8 @@
--- Each number below n tested in rising order: one more that passes, one that fails, and the range of them.
+-- Each number below n tested in rising order: one more that passes, and all of them by a range.
 -- Assumes nothing.
 use Prim.Native.Nat.{ℕ, ◌+◌, ◌<◌}
-use mathlib.Core.Path.{◌≡◌, sym, ◌∙◌}
-use mathlib.Core.Bool.{Bool, true, false, true≢false}
-use mathlib.Core.Logic.{◌⊎◌, inl, inr}
+use mathlib.Core.Path.{◌≡◌, ◌∙◌}
+use mathlib.Core.Bool.{Bool, true}
 use native.Mathlib.Nat.{zero-add}
 use native.Mathlib.Omega.{arith}
 use lib.ListN.{get_or}
@@ -12,17 +11,10 @@ use Rattle.std.proofs.lemmas.List.FromFn.{length-range_with_len, get_or-range_wi
 use Rattle.std.proofs.lemmas.List.Sums.{AllPass-from_list_all, list_all-from_AllPass}
 use native.Mathlib.Numerals.{add-one}
 use Rattle.paper.specs.Tests.{all_below}
-use Rattle.paper.proofs.Tests.{and_intro, true_or_false, same_test, all_suc, all_intro, all_elim}
+use Rattle.paper.proofs.Tests.{and_intro, same_test, all_suc, all_intro, all_elim}
 
 pub all_more : (f : ℕ → Bool) (j : ℕ) → all_below j f ≡ true → f j ≡ true → all_below (j + 1) f ≡ true
 all_more f j h e = rw (add-one, all_suc j f) (and_intro e h)
-
-pub all_stop : (f : ℕ → Bool) (n j : ℕ) → j < n → f j ≡ false → all_below n f ≡ false
-all_stop f n j l e = go (true_or_false (all_below n f))
-  where
-    go : (all_below n f ≡ true) ⊎ (all_below n f ≡ false) → all_below n f ≡ false
-    go (inl h) = absurd (true≢false (sym (all_elim n f h j l) ∙ e))
-    go (inr h) = h
 
 pub all_range : (f : ℕ → Bool) (n : ℕ) → list_all f (range_with_len 0 n) ≡ all_below n f
 all_range f n = same_test (list_all f (range_with_len 0 n)) (all_below n f) there back

@@ -4,28 +4,24 @@ ghost use Rattle.paper.specs.Trailer.{limit};
 ghost use Rattle.paper.specs.Gate.{n_of, rows_of, root_of, trailer_ok, opt_of};
 ghost use Rattle.list.specs.Read.{Trailed, Fielded, byte_of, option_of};
 
-// The trailer's numbers are within their limits, and the list has room for it.
-fn counts_ok(list: &[u8]) -> bool
-    requires { 20 ≤ length list.now }
-    ensures { result ≡ (leb (n_of list.now) limit && (leb (4 * n_of list.now + 20) (length list.now) && (leb 1 (rows_of list.now) && (leb (rows_of list.now) 256 && ltb (root_of list.now) (rows_of list.now))))) }
-{
-    let len = list.len();
-    let n = usize::from(list[len - 12]);
-    let rows = numbers::u16_at(list, len - 14);
-    let root = numbers::u16_at(list, len - 16);
-    n <= 60 && 4 * n + 20 <= len && 1 <= rows && rows <= 256 && root < rows
-}
-
+// The mark at the list's end, the trailer's numbers within their limits, and room for it.
 #[tactic(auto, unfolding(paper::specs::Gate::trailer_ok))]
 pub fn trailer_ok(list: &[u8]) -> bool
     requires { 20 ≤ length list.now }
     ensures { result ≡ trailer_ok list.now }
 {
     let len = list.len();
+    let n = usize::from(list[len - 12]);
+    let rows = numbers::u16_at(list, len - 14);
+    let root = numbers::u16_at(list, len - 16);
     numbers::mark_at(list, len - 4, b"CUT1")
         && numbers::u32_at(list, len - 8) == len
         && list[len - 11..len - 8] == [0, 0, 0]
-        && counts_ok(list)
+        && n <= 60
+        && 4 * n + 20 <= len
+        && 1 <= rows
+        && rows <= 256
+        && root < rows
 }
 
 // The trailer of a list: its n, its row count, its root, and where the trailer begins.

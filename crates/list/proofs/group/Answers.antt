@@ -3,8 +3,8 @@ use mathlib.Core.Bool.{true}
 use mathlib.Core.Path.{◌≡◌, sym, ap, ◌∙◌}
 use Prim.Native.Nat.{◌<◌}
 use Rattle.list.proofs.ListLaws.{ends_at, ends_nowhere, head_first, head_next, entry_before, group_read, group_next, group_apart, group_is}
-use Rattle.list.proofs.Each.{all_more, all_stop}
-use Rattle.paper.proofs.Tests.{all_none}
+use Rattle.list.proofs.Each.{all_more}
+use Rattle.paper.proofs.Tests.{all_none, all_but}
 use Rattle.paper.specs.Gate.{rows_of, group_at, head_end, entry_ok, group_begin}
 use Rattle.paper.specs.Tests.{all_below}
 use Rattle.list.proofs.group.Goals.{Else-u32_at-at}
@@ -28,7 +28,7 @@ returns-in_err-o c =
     let a = c.args in
     let b = ends_nowhere (entry_ok a.list.now a.text a.m c.loop-r.r) _ (sym c.entry.ensures ∙ c.in_err-o.was) in
     let l : c.loop-r.r < rows_of a.list.now = omega arith in
-    c.from_residual.ensures ∙ rw (group_is a.list.now a.m a.text (met (goal.at.returns-in_err-o c).Else-u32_at-at), all_stop _ _ _ l b)
+    c.from_residual.ensures ∙ rw (group_is a.list.now a.m a.text (met (goal.at.returns-in_err-o c).Else-u32_at-at), all_but _ _ _ l b)
 
 pub loop-r-preserved : goal.loop-r-preserved
 loop-r-preserved c =

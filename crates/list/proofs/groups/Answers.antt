@@ -3,8 +3,8 @@ use mathlib.Core.Bool.{true}
 use mathlib.Core.Path.{◌≡◌, sym, ◌∙◌}
 use Prim.Native.Nat.{suc, ◌+◌, ◌≤◌, ◌<◌}
 use Rattle.list.proofs.ListLaws.{ends_at, ends_nowhere, group_none, group_before}
-use Rattle.list.proofs.Each.{all_more, all_stop}
-use Rattle.paper.proofs.Tests.{all_none}
+use Rattle.list.proofs.Each.{all_more}
+use Rattle.paper.proofs.Tests.{all_none, all_but}
 use Rattle.paper.specs.Gate.{n_of, rows_of, group_ok}
 use Rattle.paper.specs.Tests.{all_below}
 use Rattle.list.proofs.groups.Goals as goal
@@ -17,7 +17,7 @@ returns-in_err-at c =
     let l = c.args.list.now in
     let bad = ends_nowhere (group_ok l c.args.text c.loop-m.m) _ (sym c.group.ensures ∙ c.in_err-at.was) in
     let h : c.loop-m.m < suc (n_of l) = omega arith in
-    c.from_residual.ensures ∙ rw (all_stop _ _ _ h bad)
+    c.from_residual.ensures ∙ rw (all_but _ _ _ h bad)
 
 pub loop-m-preserved : goal.loop-m-preserved
 loop-m-preserved c =
