@@ -1,6 +1,6 @@
 -- The rows and the lengths in rising order: what one turn of a loop over them adds to a row's options, to a group, to the groups.
 -- Assumes nothing.
-use Prim.Native.Nat.{ℕ, ◌+◌, ◌*◌, ◌≤◌, ◌<◌}
+use Prim.Native.Nat.{ℕ, zero, suc, ◌+◌, ◌≤◌, ◌<◌}
 use mathlib.Core.Path.{◌≡◌, refl, sym, ap, ◌∙◌}
 use mathlib.Core.Bool.{cond}
 use mathlib.Core.List.{List, [], ◌∷◌, ◌++◌}
@@ -9,13 +9,15 @@ use native.Mathlib.Omega.{arith}
 use native.Mathlib.Numerals.{add-one}
 use native.Mathlib.Nat.{zero-add}
 use lib.ListN.{length, set, length-append}
+use Rattle.std.specs.List.{range_with_len, sum_by}
+use Rattle.std.proofs.lemmas.List.Sums.{sum_by-cons}
 use lib.Seq.{get_or-set_same, get_or-set_other}
 use Rattle.paper.specs.Tests.{gather}
 use Rattle.paper.specs.Rows.{Grammar}
 use Rattle.paper.specs.Sheet.{grammar_of}
 use Rattle.paper.specs.Cuts.{Nil, own_opts, options, entry, group, groups}
 use Rattle.paper.proofs.Gathered.{gather_suc, gather_rises}
-use Rattle.paper.proofs.Encoding.{length_entry, length_groups}
+use Rattle.paper.proofs.Encoding.{length_groups}
 use Rattle.paper.proofs.Sound.{Sound}
 use Rattle.paper.proofs.Obeys.{options_few, group_most, groups_most}
 use Rattle.workspace.specs.Bits.{bit_at}
@@ -41,10 +43,6 @@ entry_inside : (g : Grammar) (m r : ℕ) → r < length g.rows → length (gathe
 unfolding group
 entry_inside g m r h = omega (arith, entry_more g m r, gather_rises 0 (r + 1) (length g.rows) (entry g m) (omega arith))
 
-pub entries_none : (g : Grammar) (m : ℕ) → 0 ≡ length (gather 0 0 (entry g m))
-unfolding gather
-entries_none g m = refl
-
 pub groups_none : (g : Grammar) → 0 ≡ length (groups g 0)
 unfolding groups gather
 groups_none g = refl
@@ -63,6 +61,17 @@ offset_more g m offsets total h e x = record {
       lt_or_le k m (λ u. get_or-set_other offsets m k total 0 (λ d. omega arith) ∙ x.each k u)
       (λ u. let d : k ≡ m = omega arith in rw d (get_or-set_same offsets m total 0 h ∙ e));
 }
+
+-- ---- the entries of a group, summed
+
+gather_sum : (f : ℕ → List ℕ) (i n : ℕ) → sum_by (λ r. length (f r)) (range_with_len i n) ≡ length (gather i n f)
+unfolding gather
+gather_sum f i zero = refl
+gather_sum f i (suc n) = sum_by-cons (λ r. length (f r)) i (range_with_len (i + 1) n) ∙ rw (length-append, ← gather_sum f (suc i) n, add-one)
+
+pub entries_sum : (g : Grammar) (m n : ℕ) → n ≡ length g.rows → sum_by (λ r. length (entry g m r)) (range_with_len 0 n) ≡ length (group g m)
+unfolding group
+entries_sum g m n e = rw e (gather_sum (entry g m) 0 (length g.rows))
 
 -- ---- a job's rows
 
@@ -83,7 +92,7 @@ module _ {s ws : List ℕ} {j : Job} (p : Prepared s ws j) where
   pub options_bound : (m r : ℕ) → m ≤ j.n → length (options (grammar_of s) m r) ≤ 15104
   options_bound m r h = options_few (grammar_of s) sound m r (omega (arith, p.job.short))
 
-  group_bound : (m : ℕ) → m ≤ j.n → length (group (grammar_of s) m) ≤ 30935040
+  pub group_bound : (m : ℕ) → m ≤ j.n → length (group (grammar_of s) m) ≤ 30935040
   group_bound m h = group_most (grammar_of s) sound m (omega (arith, p.job.short))
 
   pub groups_bound : length (groups (grammar_of s) (j.n + 1)) ≤ 1887037440
@@ -91,13 +100,6 @@ module _ {s ws : List ℕ} {j : Job} (p : Prepared s ws j) where
 
   pub entry_within : (m r : ℕ) → r < j.rows.count → length (gather 0 r (entry (grammar_of s) m)) + length (entry (grammar_of s) m r) ≤ length (group (grammar_of s) m)
   entry_within m r h = entry_inside (grammar_of s) m r (omega (arith, job_rows p.job))
-
-  -- one entry more, counted
-  pub count_more : (m r total c : ℕ) → total ≡ length (gather 0 r (entry (grammar_of s) m)) → c ≡ length (options (grammar_of s) m r) → total + (8 + 8 * c) ≡ length (gather 0 (r + 1) (entry (grammar_of s) m))
-  count_more m r total c e f = omega (arith, entry_more (grammar_of s) m r, length_entry (grammar_of s) m r)
-
-  pub count_room : (m r total c : ℕ) → r < j.rows.count → m ≤ j.n → total ≡ length (gather 0 r (entry (grammar_of s) m)) → c ≡ length (options (grammar_of s) m r) → total + (8 + 8 * c) ≤ 30935040
-  count_room m r total c h u e f = omega (arith, entry_within m r h, length_entry (grammar_of s) m r, group_bound m u)
 
   module _ (m r : ℕ) where
     -- ---- length 0
@@ -136,7 +138,3 @@ module _ {s ws : List ℕ} {j : Job} (p : Prepared s ws j) where
           → length (from_below (grammar_of s) m r a) + length (own_opts m q (as_row x)) ≤ length (options (grammar_of s) m r)
       met_inside a q x h y =
           omega (arith, met_length a q x h y, below_rises (grammar_of s) m r (q + 1) j.rows.count (omega (arith, h.0)), ap length all_rows)
-
--- past the last row
-pub rows_end : (r rows n : ℕ) → r ≤ rows → (r < rows → ⊥) → rows ≡ n → r ≡ n
-rows_end r rows n u v e = omega arith

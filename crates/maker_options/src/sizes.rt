@@ -1,7 +1,7 @@
 // How many options a row has at a length, and how long a group and the groups are.
 ghost use Rattle.std.specs.Prelude.{◌≡◌, ◌+◌, ◌*◌, ◌≤◌, ◌<◌, length};
 ghost use Rattle.paper.specs.Sheet.{grammar_of};
-ghost use Rattle.paper.specs.Cuts.{options, group, groups};
+ghost use Rattle.paper.specs.Cuts.{options, entry, group, groups};
 ghost use Rattle.workspace.specs.Scan.{FirstOf};
 ghost use Rattle.sheet_contents.specs.Read.{as_row};
 ghost use Rattle.maker_options.specs.Giving.{Gives};
@@ -48,16 +48,22 @@ pub fn option_count(s: &[u8], ws: &[u64], j: Job, m: usize, r: usize) -> usize
     c
 }
 
+// The bytes of row r's head and options at length m.
+fn entry_length(s: &[u8], ws: &[u64], j: Job, m: usize, r: usize) -> usize
+    requires { Prepared s.now ws.now j × (m ≤ j.n) × (r < j.rows.count) }
+    ensures { result ≡ length (entry (grammar_of s.now) m r) }
+{
+    8 + 8 * option_count(s, ws, j, m, r)
+}
+
 // The bytes of the group of length m.
 fn group_length(s: &[u8], ws: &[u64], j: Job, m: usize) -> usize
     requires { Prepared s.now ws.now j × (m ≤ j.n) }
     ensures { result ≡ length (group (grammar_of s.now) m) }
 {
-    let mut total = 0;
-    for r in 0..j.rows.count {
-        total += 8 + 8 * option_count(s, ws, j, m, r);
-    }
-    total
+    (0..j.rows.count)
+        .map(|r| entry_length(s, ws, j, m, r))
+        .sum()
 }
 
 // Where each group begins; and the bytes of all of them.
