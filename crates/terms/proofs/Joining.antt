@@ -18,8 +18,8 @@ use Rattle.paper.specs.Open.{term_on}
 use Rattle.paper.proofs.Tests.{or_right, or_false, all_of_at, at_all_of}
 use Rattle.sheet.proofs.Contents.{parts_length, part_here}
 use Rattle.terms.specs.declared.Places.{Places}
-use Rattle.terms.specs.Shown.{shown, Sized, Added, Readable}
-use Rattle.terms.proofs.Showing.{blank, blank_sized, blank_shown, blank_len}
+use Rattle.terms.specs.Shown.{shown, Sized, blank, Added, Readable}
+use Rattle.terms.proofs.Showing.{blank_sized, blank_shown, blank_len}
 
 -- ---- tests in the code's words
 

@@ -1,4 +1,3 @@
-pub mod Pasting
 pub mod Showing
 pub mod Joining
 pub mod Adding

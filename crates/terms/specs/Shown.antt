@@ -1,5 +1,5 @@
 -- The places that a `Places` of the code stands for.
-use Rattle.std.specs.Prelude.{ℕ, ◌+◌, ◌≤◌, ◌<◌, ◌≡◌, Bool, true, List, ◌++◌, length, get_or, take}
+use Rattle.std.specs.Prelude.{ℕ, ◌+◌, ◌≤◌, ◌≡◌, Bool, true, Option, Some, None, List, ◌++◌, length, get_or, take, map, replicate}
 use Rattle.std.proofs.Math.Seq.{paste}
 use Rattle.paper.specs.Tests.{all_below}
 use Rattle.paper.specs.Trailer.{count_of, longest}
@@ -14,23 +14,26 @@ use Rattle.terms.specs.declared.Places.{Places}
 unfoldable pub shown : Places → List Place
 shown p = places_in (take p.len p.of)
 
--- at most 60 of them, each a byte or 256
+-- at most 60 of them
 pub record Sized (p : Places) : Type 0 where
   pub room : p.len ≤ 60
   pub long : length p.of ≡ 60
-  pub small : (i : ℕ) → i < 60 → get_or p.of i 0 ≤ 256
 
--- the first `len` places of q can hold the bytes that those of p hold from i on
-unfoldable pub meet_first : Sheet → (p : List ℕ) (i : ℕ) (q : List ℕ) (len : ℕ) → Bool
-meet_first s p i q len = all_below len (λ j. meet s (place_of (get_or p (i + j) 0)) (place_of (get_or q j 0)))
+-- the places of q can hold the bytes that those of p hold, one by one
+unfoldable pub meet_all : Sheet → (p q : List (Option ℕ)) → Bool
+meet_all s p q = all_below (length p) (λ j. meet s (place_of (get_or p j None)) (place_of (get_or q j None)))
 
--- each number is a byte
-abbrev pub Bytes : List ℕ → Type 0
-Bytes s = (i : ℕ) → i < length s → get_or s i 0 < 256
-
--- the numbers s written behind the places that are there
-unfoldable pub pasted_of : Places → List ℕ → Places
+-- the places s written behind those that are there
+unfoldable pub pasted_of : Places → List (Option ℕ) → Places
 pasted_of p s = record { of = paste p.of p.len s (length s); len = p.len + length s }
+
+-- 60 places that are unknown, none of them there
+unfoldable pub blank : Places
+blank = record { of = replicate 60 None; len = 0 }
+
+-- bytes as places that are known
+unfoldable pub known_places : List ℕ → List (Option ℕ)
+known_places s = map Some s
 
 -- the part x stands behind p
 pub record Added (text : List ℕ) (p v : Places) (x : Part) (r : Places) : Type 0 where

@@ -18,12 +18,6 @@ tested c = ap (cut_inside _ _) (sym (c.part_at.ensures.same All)) ∙ c.past.ens
 pub loop-i-init : goal.loop-i-init
 loop-i-init c = λ j l. absurd (omega arith)
 
-pub overflow_add-r : goal.overflow_add-r
-overflow_add-r c = omega (arith, c.requires.2)
-
-pub part_at-requires : goal.part_at-requires
-part_at-requires c = (c.requires.0, c.requires.1, omega (arith, c.requires.2))
-
 pub past-requires : goal.past-requires
 past-requires c = (c.requires.0, c.part_at.ensures.small)
 

@@ -1,10 +1,6 @@
-use Prim.Native.Nat.{◌-◌}
 use Rattle.terms.proofs.Joining.{InsideTo}
 use Rattle.terms.proofs.inside.Given as goal
 
 -- no cut of the first i parts reaches past n
 abbrev pub invariant-loop-i : goal.invariant-loop-i
 invariant-loop-i l = InsideTo l.s l.r.first l.n l.i
-
-abbrev pub decreases-loop-i : goal.decreases-loop-i
-decreases-loop-i l = l.r.count - l.i

@@ -1,3 +1,4 @@
+use mathlib.Core.Logic.{inl, inr}
 use Rattle.paper.specs.Terms.{cut_inside}
 use Rattle.terms.proofs.past.Goals as goal
 
@@ -8,11 +9,11 @@ cut_past-requires c =
 
 pub returns-in-Const : goal.returns-in-Const
 unfolding cut_inside
-returns-in-Const c = rw c.in-Const.is
-
-pub returns-in-All : goal.returns-in-All
-unfolding cut_inside
-returns-in-All c = rw c.in-All.is
+returns-in-Const c =
+    elim c.in-Const.is [
+      inl (a, b, e) ↦ rw e
+    | inr e ↦ rw e
+    ]
 
 pub returns-in-Cut : goal.returns-in-Cut
 returns-in-Cut c = rw c.in-Cut.is c.cut_past.ensures

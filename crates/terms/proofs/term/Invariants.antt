@@ -1,4 +1,3 @@
-use Prim.Native.Nat.{◌-◌}
 use Rattle.sheet_contents.specs.Read.{as_run}
 use Rattle.terms.proofs.Joining.{Joined}
 use Rattle.terms.proofs.term.Given as goal
@@ -6,6 +5,3 @@ use Rattle.terms.proofs.term.Given as goal
 -- p has the places of the first i parts
 abbrev pub invariant-loop-i : goal.invariant-loop-i
 invariant-loop-i l = Joined l.s l.v (as_run l.r) l.i l.p
-
-abbrev pub decreases-loop-i : goal.decreases-loop-i
-decreases-loop-i l = l.r.count - l.i

@@ -1,36 +1,38 @@
-use mathlib.Core.Path.{sym, ◌∙◌}
-use borrow.Author.Count.{below_more}
+use Prim.Native.Nat.{◌+◌, ◌-◌}
+use mathlib.Core.Path.{◌≡◌, sym, ◌∙◌}
 use native.Mathlib.Omega.{arith}
-use Rattle.terms.proofs.Meeting.{stands_here, stands_nowhere}
+use Rattle.paper.specs.Sheet.{Sheet}
+use Rattle.groundwork.specs.Ground.{Ground}
+use Rattle.terms.proofs.Meeting.{stands, nowhere_none, nowhere_more, stands_here, stands_nowhere}
+use Rattle.terms.proofs.meets.contains.Goals.{After-meet_all}
 use Rattle.terms.proofs.meets.contains.Goals as goal
 
-pub loop-i-init : goal.loop-i-init
-loop-i-init c = ((λ s g j l. absurd (omega arith)), omega arith)
+-- the places of q were laid over those of p that end before e
+laid : (c : After-meet_all) → (S : Sheet) → Ground S c.args.lay.now → c.meet_all.result ≡ stands S c.args.p.now c.args.q.now (c.loop-e.e - c.args.q.now.len)
+laid c S g =
+    let z : c.loop-e.e - (c.loop-e.e - c.args.q.now.len) ≡ c.args.q.now.len = omega arith in
+    rw (z, c.places.ensures.0) at (c.meet_all.ensures S g)
 
-pub overflow_add-i : goal.overflow_add-i
-overflow_add-i c = omega (arith, c.requires.0.room, c.requires.1.room, c.loop-i.invariant.1)
+pub loop-e-init : goal.loop-e-init
+loop-e-init c = λ S g. nowhere_none S c.args.p.now c.args.q.now
 
-pub meet_from-requires : goal.meet_from-requires
-meet_from-requires c =
+pub returns-then-meet_all : goal.returns-then-meet_all
+returns-then-meet_all c =
     let s = c.requires in
-    (omega (arith, c.loop-i-test.true, s.0.room, s.0.long), omega (arith, s.1.room, s.1.long), s.2)
+    λ S g. stands_here S _ _ s.0 s.1 (c.loop-e.e - c.args.q.now.len) (omega arith) (sym (laid (goal.at.returns-then-meet_all c).After-meet_all S g) ∙ c.if-meet_all.true)
 
-pub returns-then-meet_from : goal.returns-then-meet_from
-returns-then-meet_from c =
+pub loop-e-preserved : goal.loop-e-preserved
+loop-e-preserved c =
+    λ S g. nowhere_more S c.args.p.now c.args.q.now c.loop-e.e c.loop-e.auto.e (c.loop-e.invariant S g) (sym (laid (goal.at.loop-e-preserved c).After-meet_all S g) ∙ c.if-meet_all.false)
+
+pub returns-else-meet_all : goal.returns-else-meet_all
+returns-else-meet_all c =
     let s = c.requires in
-    let h = c.loop-i-test.true in
-    λ S g. stands_here S _ _ s.0 s.1 _ h (sym (c.meet_from.ensures S g) ∙ c.if-meet_from.true)
-
-pub overflow_add-i-in-loop-i : goal.overflow_add-i-in-loop-i
-overflow_add-i-in-loop-i c = omega (arith, c.loop-i-test.true, c.requires.0.room)
-
-pub loop-i-smaller : goal.loop-i-smaller
-loop-i-smaller c = omega (arith, c.loop-i-test.true)
-
-pub loop-i-preserved : goal.loop-i-preserved
-loop-i-preserved c = ((λ s g. below_more _ _ (c.loop-i.invariant.0 s g) (sym (c.meet_from.ensures s g) ∙ c.if-meet_from.false)), omega (arith, c.loop-i-test.true))
+    λ S g.
+    stands_nowhere S _ _ s.0 s.1 (c.loop-e.e + 1) (omega arith)
+    (nowhere_more S c.args.p.now c.args.q.now c.loop-e.e c.loop-e.auto.e (c.loop-e.invariant S g) (sym (laid (goal.at.returns-else-meet_all c).After-meet_all S g) ∙ c.if-meet_all.false))
 
 pub returns : goal.returns
 returns c =
     let s = c.requires in
-    λ S g. stands_nowhere S _ _ s.0 s.1 _ (c.loop-i.invariant.0 S g) c.loop-i-test.false
+    λ S g. stands_nowhere S _ _ s.0 s.1 c.loop-e.e c.loop-e-test.false (c.loop-e.invariant S g)

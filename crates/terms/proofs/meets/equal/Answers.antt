@@ -1,18 +1,15 @@
+use mathlib.Core.Path.{sym, ◌∙◌}
 use native.Mathlib.Omega.{arith}
+use borrow.Author.Tests.{ne_eqb}
 use Rattle.terms.proofs.Meeting.{lengths_differ, lengths_same}
 use Rattle.terms.proofs.meets.equal.Goals as goal
 
-pub returns-then-q-p : goal.returns-then-q-p
-returns-then-q-p c = λ S g. lengths_differ S _ _ c.requires.0 c.requires.1 c.if-q-p.true
-
-pub meet_from-requires : goal.meet_from-requires
-meet_from-requires c =
+pub returns-then-p-q : goal.returns-then-p-q
+returns-then-p-q c =
     let s = c.requires in
-    let e = c.if-q-p.false in
-    (omega (arith, s.0.room, s.0.long), omega (arith, s.1.room, s.1.long), s.2)
+    λ S g. lengths_same S _ _ s.0 s.1 c.if-p-q.true _ (rw (c.places.ensures.0, c.places-then-p-q.ensures.0) at (c.meet_all.ensures S g))
 
-pub returns : goal.returns
-returns c =
+pub returns-else-p-q : goal.returns-else-p-q
+returns-else-p-q c =
     let s = c.requires in
-    let e = c.if-q-p.false in
-    λ S g. lengths_same S _ _ s.0 s.1 e _ (c.meet_from.ensures S g)
+    λ S g a b. ne_eqb c.args.p.now.len c.args.q.now.len c.if-p-q.false ∙ lengths_differ S _ _ s.0 s.1 c.if-p-q.false a b
