@@ -6,6 +6,7 @@ use mathlib.Core.List.{List}
 use native.Mathlib.Omega.{arith}
 use native.Mathlib.Nat.{not-suc-le-zero}
 use lib.ListN.{length}
+use Rattle.std.specs.Prelude.{Option}
 use Rattle.paper.specs.Decide.{level}
 use Rattle.paper.specs.Sheet.{sheet_of, grammar_of, text_of}
 use Rattle.paper.proofs.Derivation.{accepts_level}
@@ -37,10 +38,10 @@ empty_cell lay old new sp i p h room e =
     small = span_lt i 0 (omega arith)
 
 -- the same with a changed workspace
-pub still : {s places lay old new : List ℕ} {rows : Table} → Charting s rows places lay old → length new ≡ length old → Charting s rows places lay new
+pub still : {s : List ℕ} {places : List (Option ℕ)} {lay old new : List ℕ} {rows : Table} → Charting s rows places lay old → length new ≡ length old → Charting s rows places lay new
 still c e = record { lent = record { good = c.lent.good; ground = c.lent.ground; room = omega (arith, c.lent.room) }; table = c.table; short = c.short }
 
-module _ {s places lay work : List ℕ} {rows : Table} (given : Charting s rows places lay work) where
+module _ {s : List ℕ} {places : List (Option ℕ)} {lay work : List ℕ} {rows : Table} (given : Charting s rows places lay work) where
   -- ---- what the loops need of the groundwork
 
   few : length (sheet_of s).grammar.rows ≤ 256
@@ -88,5 +89,5 @@ module _ {s places lay work : List ℕ} {rows : Table} (given : Charting s rows 
       (subst (λ t. Adds t (parted lay w2 i m (m - 1)) w2 w3) p c)
       (subst (λ t. Adds t (carried_in lay w3 t (length (sheet_of s).grammar.rows)) w3 new) p (subst (λ n. Adds sp (carried_in lay w3 sp n) w3 new) (sym rows_are) d))
 
-pub charted : (s places old new : List ℕ) (M : ℕ) → length places < M → Filled (derivable s places) (length places) M 0 new → Within old new → Charted s places old new
+pub charted : (s : List ℕ) (places : List (Option ℕ)) (old new : List ℕ) (M : ℕ) → length places < M → Filled (derivable s places) (length places) M 0 new → Within old new → Charted s places old new
 charted s places old new M h x w = record { within = w; bits = λ m i r k l. x.shorter m i r (omega arith) k l }

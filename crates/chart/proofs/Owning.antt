@@ -12,6 +12,7 @@ use lib.Dec.{eqb, leb, ltb}
 use lib.ListN.{length, get_or, take, drop, length-drop, get_or-eq_default}
 use lib.Seq.{length-take-le}
 use borrow.Author.Tests.{eqb-true, leb-true, eq-eqb, ne_eqb, le-leb, lt-leb, lt-ltb, le-ltb}
+use Rattle.std.specs.Prelude.{Option, Some, None}
 use Rattle.paper.specs.Tests.{any_below}
 use Rattle.paper.specs.Rows.{Row, Empty, Range, Text, Alt, Seq, Star, Grammar, row, stretch, no_row}
 use Rattle.paper.specs.Compare.{same_byte}
@@ -23,8 +24,8 @@ use Rattle.paper.proofs.Derivation.{at_fits, fits_at, stretch_part}
 use Rattle.workspace.specs.Spans.{span_at}
 use Rattle.workspace.specs.Bits.{bit, bit_at}
 use Rattle.groundwork.specs.Ground.{Ground, Splits, some_letter, pairs_at, count_at, lengths_at}
-use Rattle.workspace.specs.Places.{places_in}
-use Rattle.workspace.proofs.Places.{place_known, place_unknown, places_at}
+use Rattle.workspace.specs.Places.{place_of, places_in}
+use Rattle.workspace.proofs.Places.{places_at}
 use Rattle.sheet_contents.specs.Ranges.{holds_byte}
 use Rattle.chart_cells.specs.Steps.{Adds, only, both, paired, parted}
 use Rattle.chart.specs.Cells.{holding, ranged, fitting, splitting, among, passing, can_hold, can_hold_all}
@@ -83,14 +84,14 @@ module _ (g : Grammar) (f : Row → Bool) where
 
 -- ---- places
 
-module _ (S : Sheet) (places : List ℕ) (i : ℕ) (h : i < length places) where
-  pub known_place : get_or places i 0 < 256 → (b : ℕ) → pattern S (places_in places) i b ≡ same_byte b (get_or places i 0)
-  unfolding pattern allows
-  known_place l b = rw (places_at places i h, place_known (get_or places i 0) l)
+module _ (S : Sheet) (places : List (Option ℕ)) (i : ℕ) where
+  known_place : (x : ℕ) → get_or places i None ≡ Some x → (b : ℕ) → pattern S (places_in places) i b ≡ same_byte b x
+  unfolding pattern allows place_of
+  known_place x e b = rw (places_at places i, e)
 
-  pub unknown_place : 256 ≤ get_or places i 0 → (b : ℕ) → pattern S (places_in places) i b ≡ letter S b
-  unfolding pattern allows
-  unknown_place l b = rw (places_at places i h, place_unknown (get_or places i 0) l)
+  unknown_place : get_or places i None ≡ None → (b : ℕ) → pattern S (places_in places) i b ≡ letter S b
+  unfolding pattern allows place_of
+  unknown_place e b = rw (places_at places i, e)
 
 -- ---- ranges
 
@@ -111,26 +112,26 @@ range_in pat i lo hi x h = same_test _ _ there back
         let b : x ≤ hi = leb-true x hi (and_right (leb lo x) _ e) in
         any_intro (suc hi - lo) (λ k. pat i (lo + k)) (x - lo) (omega arith) (rw (add-sub_of_le a, h x) (eq-eqb x x refl))
 
-module _ (S : Sheet) (places : List ℕ) (i : ℕ) (h : i < length places) where
-  pub known_range : get_or places i 0 < 256 → (x : Row) → holding (get_or places i 0) x ≡ ranged (pattern S (places_in places)) 1 i x
+module _ (S : Sheet) (places : List (Option ℕ)) (i : ℕ) where
+  pub known_range : (b : ℕ) → get_or places i None ≡ Some b → (x : Row) → holding b x ≡ ranged (pattern S (places_in places)) 1 i x
   unfolding holding holds_byte ranged
-  known_range l Empty = refl
-  known_range l (Range lo hi) = sym (range_in (pattern S (places_in places)) i lo hi (get_or places i 0) (known_place S places i h l))
-  known_range l (Text off len) = refl
-  known_range l (Alt a b) = refl
-  known_range l (Seq a b) = refl
-  known_range l (Star a) = refl
+  known_range b e Empty = refl
+  known_range b e (Range lo hi) = sym (range_in (pattern S (places_in places)) i lo hi b (known_place S places i b e))
+  known_range b e (Text off len) = refl
+  known_range b e (Alt l r) = refl
+  known_range b e (Seq l r) = refl
+  known_range b e (Star l) = refl
 
-  unknown_range : 256 ≤ get_or places i 0 → (x : Row) → some_letter S x ≡ ranged (pattern S (places_in places)) 1 i x
+  unknown_range : get_or places i None ≡ None → (x : Row) → some_letter S x ≡ ranged (pattern S (places_in places)) 1 i x
   unfolding some_letter ranged some_in
-  unknown_range l Empty = refl
-  unknown_range l (Range lo hi) = any_same (suc hi - lo) (λ k. letter S (lo + k)) (λ k. pattern S (places_in places) i (lo + k)) (λ k m. sym (unknown_place S places i h l (lo + k)))
-  unknown_range l (Text off len) = refl
-  unknown_range l (Alt a b) = refl
-  unknown_range l (Seq a b) = refl
-  unknown_range l (Star a) = refl
+  unknown_range e Empty = refl
+  unknown_range e (Range lo hi) = any_same (suc hi - lo) (λ k. letter S (lo + k)) (λ k. pattern S (places_in places) i (lo + k)) (λ k m. sym (unknown_place S places i e (lo + k)))
+  unknown_range e (Text off len) = refl
+  unknown_range e (Alt a b) = refl
+  unknown_range e (Seq a b) = refl
+  unknown_range e (Star a) = refl
 
-  pub letter_ranges : (lay : List ℕ) → Ground S lay → 256 ≤ get_or places i 0 → (r : ℕ) → r < 256 → bit_at lay 257 r ≡ passing S.grammar (ranged (pattern S (places_in places)) 1 i) r
+  pub letter_ranges : (lay : List ℕ) → Ground S lay → get_or places i None ≡ None → (r : ℕ) → r < 256 → bit_at lay 257 r ≡ passing S.grammar (ranged (pattern S (places_in places)) 1 i) r
   unfolding passing
   letter_ranges lay ground l r m = ground.ranges r m ∙ unknown_range l (row S.grammar r)
 
@@ -171,22 +172,22 @@ no_holds x = go x (leb 1 x) refl
 
 -- ---- texts
 
-module _ (S : Sheet) (lay places : List ℕ) (ground : Ground S lay) where
-  held : (k : ℕ) → k < length places → (b : ℕ) → can_hold lay (get_or places k 0) b ≡ pattern S (places_in places) k b
+module _ (S : Sheet) (lay : List ℕ) (places : List (Option ℕ)) (ground : Ground S lay) where
+  held : (k b : ℕ) → can_hold lay (get_or places k None) b ≡ pattern S (places_in places) k b
   unfolding can_hold
-  held k h b = go (dec_lt (get_or places k 0) 256)
+  held k b = go (get_or places k None) refl
     where
-      go : Dec (get_or places k 0 < 256) → cond (ltb (get_or places k 0) 256) (eqb b (get_or places k 0)) (bit_at lay 258 b) ≡ pattern S (places_in places) k b
-      go (yes l) = rw (lt-ltb (get_or places k 0) 256 l) (sym (known_place S places k h l b))
-      go (no l) = rw (le-ltb (get_or places k 0) 256 (omega arith)) (ground.letters b ∙ sym (unknown_place S places k h (omega arith) b))
+      go : (x : Option ℕ) → get_or places k None ≡ x → can_hold lay x b ≡ pattern S (places_in places) k b
+      go (Some x) e = sym (known_place S places k x e b)
+      go None e = ground.letters b ∙ sym (unknown_place S places k e b)
 
   -- places can hold bytes where these fit
   word_held : (i : ℕ) (w : List ℕ) → i + length w ≤ length places → can_hold_all lay places i w ≡ fits (pattern S (places_in places)) i w
   unfolding can_hold_all
   word_held i w room =
       same_test _ _
-      (λ e. at_fits (pattern S (places_in places)) i w (λ p l. sym (held (i + p) (omega arith) (get_or w p 0)) ∙ all_elim (length w) _ e p l))
-      (λ e. all_intro (length w) _ (λ p l. held (i + p) (omega arith) (get_or w p 0) ∙ fits_at (pattern S (places_in places)) i w e p l))
+      (λ e. at_fits (pattern S (places_in places)) i w (λ p l. sym (held (i + p) (get_or w p 0)) ∙ all_elim (length w) _ e p l))
+      (λ e. all_intro (length w) _ (λ p l. held (i + p) (get_or w p 0) ∙ fits_at (pattern S (places_in places)) i w e p l))
 
   pub text_held : (i off m : ℕ) → off + m ≤ length S.grammar.text → i + m ≤ length places
       → can_hold_all lay places i (take m (drop off S.grammar.text)) ≡ fits (pattern S (places_in places)) i (stretch 0 S.grammar.text off m)

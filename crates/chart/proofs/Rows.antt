@@ -10,6 +10,7 @@ use lib.Dec.{eqb}
 use lib.ListN.{length, get_or, take, drop, length-drop}
 use lib.Seq.{length-take-le}
 use borrow.Author.Tests.{eqb-false}
+use Rattle.std.specs.Prelude.{Option, Some, None}
 use Rattle.paper.specs.Trailer.{count_of}
 use Rattle.paper.specs.Rows.{row, stretch}
 use Rattle.paper.specs.Decide.{Pattern, fits}
@@ -31,13 +32,13 @@ part_size text a m h = length-take-le (a + m - a) (drop a text) (rw length-drop 
 -- ---- the steps, for an accepted sheet
 
 -- every row has had its turn
-module _ (s places : List ℕ) (n : ℕ) (all : n ≡ length (grammar_of s).rows) where
+module _ (s : List ℕ) (places : List (Option ℕ)) (n : ℕ) (all : n ≡ length (grammar_of s).rows) where
   -- a place that is known
-  pub known_single : (i m : ℕ) → m ≡ 1 → i < length places → get_or places i 0 < 256 → (r : ℕ)
-      → among (grammar_of s) (holding (get_or places i 0)) n r ≡ passing (grammar_of s) (ranged (allowed s places) m i) r
+  pub known_single : (i m x : ℕ) → m ≡ 1 → get_or places i None ≡ Some x → (r : ℕ)
+      → among (grammar_of s) (holding x) n r ≡ passing (grammar_of s) (ranged (allowed s places) m i) r
   unfolding passing
-  known_single i m p h l r =
-      rw (p, all) (among_all (grammar_of s) (holding (get_or places i 0)) r (no_holds (get_or places i 0)) ∙ known_range (sheet_of s) places i h l (row (grammar_of s) r))
+  known_single i m x p e r =
+      rw (p, all) (among_all (grammar_of s) (holding x) r (no_holds x) ∙ known_range (sheet_of s) places i x e (row (grammar_of s) r))
 
   pub texts_passed : (pat : Pattern) (m i r : ℕ) → among (grammar_of s) (fitting (text_of s) pat m i) n r ≡ passing (grammar_of s) (fitting (text_of s) pat m i) r
   unfolding fitting
@@ -54,7 +55,7 @@ no_holding s lay ground x n e few = among_no (grammar_of s) (holding x) n (λ r 
         absurd (true≢false (sym held ∙ sym (ground.ranges r (omega arith)) ∙ none_bit lay 257 (and_left (none_at lay 257) _ e) r))
     go r l (inr y) = y
 
-module _ (s lay places : List ℕ) (ground : Ground (sheet_of s) lay) where
+module _ (s lay : List ℕ) (places : List (Option ℕ)) (ground : Ground (sheet_of s) lay) where
   -- a part of the text can be held where its bytes fit
   pub part_fits : Good s → (i a m : ℕ) (text : List ℕ) → text ≡ text_of s → a + m ≤ count_of s 1 → i + m ≤ length places
       → can_hold_all lay places i (take (a + m - a) (drop a text)) ≡ fits (allowed s places) i (stretch 0 (text_of s) a m)
@@ -64,10 +65,10 @@ module _ (s lay places : List ℕ) (ground : Ground (sheet_of s) lay) where
       rw (p, q) (text_held (sheet_of s) lay places ground i a m (omega (arith, text_length s g)) room)
 
   -- a place that is not known
-  pub unknown_single : (i m : ℕ) → m ≡ 1 → i < length places → 256 ≤ get_or places i 0 → (r : ℕ) → r < 256
+  pub unknown_single : (i m : ℕ) → m ≡ 1 → get_or places i None ≡ None → (r : ℕ) → r < 256
       → bit_at lay 257 r ≡ passing (grammar_of s) (ranged (allowed s places) m i) r
   unfolding sheet_of
-  unknown_single i m p h l r k = rw p (letter_ranges (sheet_of s) places i h lay ground l r k)
+  unknown_single i m p e r k = rw p (letter_ranges (sheet_of s) places i lay ground e r k)
 
   pub texts_none : (pat : Pattern) (m i : ℕ) → m ≤ 60 → eqb (bit (get_or lay lengths_at 0) m) 1 ≡ false → (r : ℕ) → passing (grammar_of s) (fitting (text_of s) pat m i) r ≡ false
   unfolding sheet_of grammar_of

@@ -1,5 +1,5 @@
 -- A cell: what each row does by itself with the m places from i on, by the row's kind; and the table as it fills.
-use Rattle.std.specs.Prelude.{ℕ, ◌+◌, ◌<◌, ◌≤◌, ◌≡◌, Bool, false, cond, ◌&&◌, List, eqb, ltb, length, get_or}
+use Rattle.std.specs.Prelude.{ℕ, ◌+◌, ◌<◌, ◌≤◌, ◌≡◌, Bool, false, ◌&&◌, Option, Some, None, List, eqb, ltb, length, get_or}
 use Rattle.paper.specs.Tests.{all_below}
 use Rattle.paper.specs.Rows.{Row, Empty, Range, Text, Alt, Seq, Star, Grammar, row, stretch}
 use Rattle.paper.specs.Decide.{Pattern, Test, fits, some_in, split, accepts}
@@ -16,13 +16,13 @@ use Rattle.groundwork.specs.Lent.{Lent}
 use Rattle.chart_cells.specs.Steps.{Kept}
 
 -- what the chart's functions are handed: what every trial is lent, where the rows lie, and the places of a term
-pub record Charting (s : List ℕ) (rows : Table) (places lay work : List ℕ) : Type 0 where
+pub record Charting (s : List ℕ) (rows : Table) (places : List (Option ℕ)) (lay work : List ℕ) : Type 0 where
   pub lent : Lent s lay work
   pub table : TableOf s 2 rows
   pub short : length places ≤ 60
 
 -- the bytes that the places allow
-abbrev pub allowed : (s places : List ℕ) → Pattern
+abbrev pub allowed : List ℕ → List (Option ℕ) → Pattern
 allowed s places = pattern (sheet_of s) (places_in places)
 
 -- a range that holds the byte x
@@ -68,18 +68,19 @@ among g f n r = ltb r n && f (row g r)
 unfoldable pub passing : Grammar → (Row → Bool) → ℕ → Bool
 passing g f r = f (row g r)
 
--- the place x can hold the byte b
-unfoldable pub can_hold : List ℕ → (x b : ℕ) → Bool
-can_hold lay x b = cond (ltb x 256) (eqb b x) (bit_at lay 258 b)
+-- the place can hold the byte b
+unfoldable pub can_hold : List ℕ → Option ℕ → ℕ → Bool
+can_hold lay (Some x) b = eqb b x
+can_hold lay None b = bit_at lay 258 b
 
 -- the places from i on can hold the bytes of a part of the text
-unfoldable pub can_hold_all : (lay places : List ℕ) (i : ℕ) → List ℕ → Bool
-can_hold_all lay places i part = all_below (length part) (λ k. can_hold lay (get_or places (i + k) 0) (get_or part k 0))
+unfoldable pub can_hold_all : List ℕ → List (Option ℕ) → ℕ → List ℕ → Bool
+can_hold_all lay places i part = all_below (length part) (λ k. can_hold lay (get_or places (i + k) None) (get_or part k 0))
 
 -- ---- the table
 
 -- what the bits of a sheet's chart are
-abbrev pub derivable : (s places : List ℕ) → Test
+abbrev pub derivable : List ℕ → List (Option ℕ) → Test
 derivable s places = accepts (grammar_of s) (allowed s places)
 
 -- what the bits of the empty spans are, by the groundwork
@@ -102,6 +103,6 @@ pub record Grown (acc : Test) (n M : ℕ) (old new : List ℕ) : Type 0 where
   pub within : Within old new
 
 -- THE PROMISE: each span's bits are the rows that derive it
-pub record Charted (s places old new : List ℕ) : Type 0 where
+pub record Charted (s : List ℕ) (places : List (Option ℕ)) (old new : List ℕ) : Type 0 where
   pub within : Within old new
   pub bits : (m i r : ℕ) → i + m ≤ length places → r < 256 → bit_at new (span_at i m) r ≡ derivable s places m i r

@@ -1,7 +1,7 @@
 #![tactic(auto)]
 
 // Which rows derive which span of a term whose places are known or unknown, in the lent workspace.
-// A place is a byte, or 256 where it is not known. Spans are filled the shorter ones first, each before it is read.
+// A place is a byte, or None where it is not known. Spans are filled the shorter ones first, each before it is read.
 pub mod singles;
 
 ghost use Rattle.std.specs.Prelude.{◌≡◌, ◌+◌, ◌≤◌, ◌<◌, length};
@@ -12,7 +12,7 @@ ghost use Rattle.chart.specs.Cells.{Charting, derivable, emptied, Cell, Filled, 
 use sheet_trailer::Table;
 
 // The span of the m places from i on: what each row does by itself, carried to the rows that reach it.
-fn cell(s: &[u8], rows: Table, places: &[u16], lay: &[u64], work: &mut [u64], i: usize, m: usize)
+fn cell(s: &[u8], rows: Table, places: &[Option<u8>], lay: &[u64], work: &mut [u64], i: usize, m: usize)
     requires { Charting s.now rows places.now lay.now work.old × (0 < m) × (i + m ≤ length places.now) × Filled (derivable s.now places.now) (length places.now) m i work.old }
     ensures { Cell (derivable s.now places.now) m i work.old work.new }
 {
@@ -25,7 +25,7 @@ fn cell(s: &[u8], rows: Table, places: &[u16], lay: &[u64], work: &mut [u64], i:
 }
 
 // Every span of m places.
-fn level(s: &[u8], rows: Table, places: &[u16], lay: &[u64], work: &mut [u64], m: usize)
+fn level(s: &[u8], rows: Table, places: &[Option<u8>], lay: &[u64], work: &mut [u64], m: usize)
     requires { Charting s.now rows places.now lay.now work.old × (0 < m) × (m ≤ length places.now) × Filled (derivable s.now places.now) (length places.now) m 0 work.old }
     ensures { Grown (derivable s.now places.now) (length places.now) (m + 1) work.old work.new }
 {
@@ -41,12 +41,12 @@ fn empties(lay: &[u64], work: &mut [u64], n: usize)
 {
     for i in 0..=n {
         let sp = workspace::span(i, 0);
-        workspace::copy(work, sp, lay, 256);
+        workspace::copy(work, sp, lay, groundwork::EMPTIES);
     }
 }
 
 // Every span of the term, the shorter ones first.
-pub fn fill(s: &[u8], rows: Table, places: &[u16], lay: &[u64], work: &mut [u64])
+pub fn fill(s: &[u8], rows: Table, places: &[Option<u8>], lay: &[u64], work: &mut [u64])
     requires { Charting s.now rows places.now lay.now work.old }
     ensures { Charted s.now places.now work.old work.new }
 {

@@ -7,7 +7,7 @@ ghost use Rattle.sheet_trailer.specs.Tables.{TableOf};
 ghost use Rattle.sheet_contents.specs.Read.{as_row};
 ghost use Rattle.sheet_contents.specs.Ranges.{holds_byte};
 ghost use Rattle.sheet.specs.Good.{Good};
-ghost use Rattle.groundwork.specs.Ground.{Ground, lengths_at};
+ghost use Rattle.groundwork.specs.Ground.{Ground, size, pairs_at, lengths_at};
 ghost use Rattle.chart_cells.specs.Steps.{Adds};
 ghost use Rattle.chart.specs.Cells.{Charting, allowed, holding, no_range, ranged, fitting, among, passing, can_hold, can_hold_all};
 
@@ -26,10 +26,10 @@ fn holds(r: Row, x: usize) -> bool
 
 // Whether the byte x is a letter and no range holds one: then none holds x.
 fn no_range(lay: &[u64], x: usize) -> bool
-    requires { (1036 ≤ length lay.now) × (x < 256) }
+    requires { (pairs_at ≤ length lay.now) × (x < 256) }
     ensures { result ≡ no_range lay.now x }
 {
-    workspace::none(lay, 257) && groundwork::is_letter(lay, x)
+    workspace::none(lay, groundwork::RANGES) && groundwork::is_letter(lay, x)
 }
 
 // The ranges that hold the byte x, into span sp.
@@ -50,7 +50,7 @@ fn ranges(s: &[u8], rows: Table, lay: &[u64], x: usize, work: &mut [u64], sp: us
 pub fn singles(
     s: &[u8],
     rows: Table,
-    places: &[u16],
+    places: &[Option<u8>],
     lay: &[u64],
     work: &mut [u64],
     i: usize,
@@ -63,41 +63,29 @@ pub fn singles(
     if m != 1 {
         return;
     }
-    let x = places[i] as usize;
-    if x < 256 {
-        ranges(s, rows, lay, x, work, sp);
-        return;
+    match places[i] {
+        Some(x) => ranges(s, rows, lay, usize::from(x), work, sp),
+        None => workspace::join(work, sp, lay, groundwork::RANGES),
     }
-    workspace::join(work, sp, lay, 257);
 }
 
-// Whether the place x can hold the byte b.
-fn can_hold(lay: &[u64], x: usize, b: usize) -> bool
-    requires { (b < 256) × (1036 ≤ length lay.now) }
-    ensures { result ≡ can_hold lay.now x b }
+// Whether the place can hold the byte b.
+fn can_hold(lay: &[u64], place: Option<u8>, b: u8) -> bool
+    requires { pairs_at ≤ length lay.now }
+    ensures { result ≡ can_hold lay.now place b }
 {
-    if x < 256 {
-        return b == x;
+    match place {
+        Some(x) => b == x,
+        None => groundwork::is_letter(lay, usize::from(b)),
     }
-    groundwork::is_letter(lay, b)
 }
 
 // Whether the places from i on can hold the bytes of a part of the sheet's text.
-pub fn can_hold_all(part: &[u8], places: &[u16], i: usize, lay: &[u64]) -> bool
-    requires { (i + length part.now ≤ length places.now) × (1036 ≤ length lay.now) }
+pub fn can_hold_all(part: &[u8], places: &[Option<u8>], i: usize, lay: &[u64]) -> bool
+    requires { (i + length part.now ≤ length places.now) × (pairs_at ≤ length lay.now) }
     ensures { result ≡ can_hold_all lay.now places.now i part.now }
 {
-    let mut k = 0;
-    while k < part.len() {
-        let b = part[k] as usize;
-        let x = places[i + k] as usize;
-        if can_hold(lay, x, b) {
-            k += 1;
-        } else {
-            return false;
-        }
-    }
-    true
+    part.iter().zip(&places[i..]).all(|(b, x)| can_hold(lay, *x, *b))
 }
 
 // Whether row q is a text of m bytes that fits the places from i on.
@@ -106,7 +94,7 @@ fn text_fits(
     rows: Table,
     q: usize,
     text: &[u8],
-    places: &[u16],
+    places: &[Option<u8>],
     i: usize,
     m: usize,
     lay: &[u64],
@@ -122,17 +110,17 @@ fn text_fits(
 
 // Whether some text row has m bytes.
 fn has_length(lay: &[u64], m: usize) -> bool
-    requires { (m ≤ 60) × (length lay.now ≡ 1294) }
+    requires { (m ≤ 60) × (length lay.now ≡ size) }
     ensures { result ≡ eqb (bit (get_or lay.now lengths_at 0) m) 1 }
 {
-    (lay[1292] >> m) & 1 == 1
+    (lay[groundwork::LENGTHS] >> m) & 1 == 1
 }
 
 // The texts of m bytes that fit the places from i on, into their span.
 pub fn texts(
     s: &[u8],
     rows: Table,
-    places: &[u16],
+    places: &[Option<u8>],
     lay: &[u64],
     work: &mut [u64],
     i: usize,

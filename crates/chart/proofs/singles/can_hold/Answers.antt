@@ -1,11 +1,12 @@
-use borrow.Author.Tests.{lt-ltb, le-ltb}
+use mathlib.Core.Path.{◌∙◌, ap}
+use Rattle.workspace.specs.Bits.{bit_at}
 use Rattle.chart.specs.Cells.{can_hold}
 use Rattle.chart.proofs.singles.can_hold.Goals as goal
 
-pub returns-then-x-lt256 : goal.returns-then-x-lt256
+pub returns-in-Some : goal.returns-in-Some
 unfolding can_hold
-returns-then-x-lt256 c = rw (lt-ltb _ _ c.if-x-lt256.true)
+returns-in-Some c = rw c.in-Some.is
 
-pub returns : goal.returns
+pub returns-in-None : goal.returns-in-None
 unfolding can_hold
-returns c = rw (le-ltb _ _ c.if-x-lt256.false) c.is_letter.ensures
+returns-in-None c = rw c.in-None.is (c.is_letter.ensures ∙ ap (bit_at c.args.lay.now 258) c.from.ensures)

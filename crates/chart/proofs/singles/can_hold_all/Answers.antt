@@ -1,33 +1,25 @@
-use mathlib.Core.Path.{sym, ◌∙◌}
-use Prim.Native.Nat.{◌+◌}
+use Prim.Native.Nat.{ℕ, ◌+◌, ◌-◌}
+use mathlib.Core.Path.{ap, sym, ◌∙◌}
 use native.Mathlib.Omega.{arith}
-use lib.ListN.{length, get_or}
-use borrow.Author.Count.{below_more}
-use Rattle.paper.proofs.Tests.{all_intro, all_but}
+use borrow.Author.Rules.{rules}
+use borrow.Author.Tests.{tests}
+use lib.ListN.{length, get_or, drop, length-drop}
+use lib.Seq.{get_or-drop, take_all}
+use Rattle.std.specs.Prelude.{Option, None}
+use Rattle.std.proofs.lemmas.Iterator.{YieldsList-from_slice, YieldsList-from_zip}
+use Rattle.std.proofs.lemmas.Iterator.Search.{all_from_yields_List}
+use Rattle.paper.proofs.Tests.{all_same}
+use Rattle.workspace.proofs.Places.{all_zipped}
 use Rattle.chart.specs.Cells.{can_hold, can_hold_all}
 use Rattle.chart.proofs.singles.can_hold_all.Goals as goal
-
-pub loop-k-init : goal.loop-k-init
-loop-k-init c = (omega arith, λ j h. absurd (omega arith))
-
-pub overflow_cast-b : goal.overflow_cast-b
-overflow_cast-b c = omega (arith, c.shared_slice_known-in-loop-k-1.given c.loop-k.k)
-
-pub overflow_cast-x : goal.overflow_cast-x
-overflow_cast-x c = omega (arith, c.shared_slice_known-in-loop-k-2-1.given (c.args.i + c.loop-k.k))
-
-pub can_hold-requires : goal.can_hold-requires
-can_hold-requires c = (omega (arith, c.shared_slice_known-in-loop-k-1.given c.loop-k.k), omega arith)
-
-pub loop-k-preserved : goal.loop-k-preserved
-loop-k-preserved c = (omega arith, below_more _ _ c.loop-k.invariant.1 (sym c.can_hold.ensures ∙ c.if-can_hold.true))
-
-pub returns-else-can_hold : goal.returns-else-can_hold
-unfolding can_hold_all
-returns-else-can_hold c = sym (all_but _ _ _ c.loop-k-test.true (sym c.can_hold.ensures ∙ c.if-can_hold.false))
 
 pub returns : goal.returns
 unfolding can_hold_all
 returns c =
     let a = c.args in
-    sym (all_intro (length a.part.now) (λ k. can_hold a.lay.now (get_or a.places.now (a.i + k) 0) (get_or a.part.now k 0)) (λ k h. c.loop-k.invariant.1 k (omega arith)))
+    let room = length-drop a.i a.places.now in
+    all_from_yields_List (λ (p : ℕ × Option ℕ). can_hold a.lay.now p.1 p.0) c.all.new.self _ c.all.result c.all.ensures.ran
+    (YieldsList-from_zip (YieldsList-from_slice a.part.now cc) (YieldsList-from_slice (drop a.i a.places.now) (c.zip.ensures.second.0 ∙ take_all (length a.places.now - a.i) (drop a.i a.places.now) (omega arith))))
+    (λ x b q k. search (rules, tests))
+    ∙ all_zipped (λ b x. can_hold a.lay.now x b) a.part.now (drop a.i a.places.now) 0 None (omega arith)
+    ∙ all_same (length a.part.now) _ _ (λ k l. ap (λ (x : Option ℕ). can_hold a.lay.now x (get_or a.part.now k 0)) (get_or-drop a.i a.places.now k None))
