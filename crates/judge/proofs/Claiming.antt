@@ -5,6 +5,7 @@ use mathlib.Core.Bool.{Bool, true, false}
 use mathlib.Core.List.{List}
 use native.Mathlib.Omega.{arith}
 use lib.ListN.{length, take, drop}
+use Rattle.std.specs.Prelude.{Option}
 use Rattle.paper.specs.Rows.{stretch}
 use Rattle.paper.specs.Terms.{Place}
 use Rattle.paper.specs.Sheet.{Sheet, Contains, sheet_of, text_of}
@@ -18,7 +19,7 @@ use Rattle.chart.specs.Cells.{can_hold_all}
 use Rattle.chart.proofs.Owning.{text_held}
 use Rattle.terms.proofs.Showing.{places_length}
 
-module _ (S : Sheet) (places : List ℕ) (a b : ℕ) where
+module _ (S : Sheet) (places : List (Option ℕ)) (a b : ℕ) where
   -- the constant stands at i
   abbrev pub stands : ℕ → Bool
   stands i = fits (pattern S (places_in places)) i (stretch 0 S.grammar.text a b)
@@ -40,7 +41,7 @@ module _ (S : Sheet) (places : List ℕ) (a b : ℕ) where
       sym (any_nowhere (suc (length (places_in places)) - b) stands (λ j k. let same : j + b - b ≡ j = omega arith in rw same at (h (j + b) (omega arith) (omega arith))))
 
 -- the code's comparison of a stretch is the pattern's
-pub held_here : (s lay places : List ℕ) → Ground (sheet_of s) lay → (i a b : ℕ) → a + b ≤ length (text_of s) → i + b ≤ length places
+pub held_here : (s lay : List ℕ) (places : List (Option ℕ)) → Ground (sheet_of s) lay → (i a b : ℕ) → a + b ≤ length (text_of s) → i + b ≤ length places
     → can_hold_all lay places i (take b (drop a (text_of s))) ≡ stands (sheet_of s) places a b i
 held_here s lay places g i a b h k =
     subst (λ (t : List ℕ). can_hold_all lay places i (take b (drop a t)) ≡ stands (sheet_of s) places a b i) (text_is s)

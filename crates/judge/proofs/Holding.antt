@@ -23,13 +23,13 @@ use Rattle.judge.specs.Charts.{Charts, Left, Meant, Keeps, Asked}
 
 -- ---- a chart, filled and read
 
-pub charts_filled : (s places old new : List ℕ) → Charted s places old new → Charts s (places_in places) new
+pub charts_filled : (s : List ℕ) (places : List (Option ℕ)) (old new : List ℕ) → Charted s places old new → Charts s (places_in places) new
 charts_filled s places old new c =
     let n = places_length places in
     record { bits = λ m i r h k. c.bits m i r (omega arith) k }
 
 -- a row read off it
-pub derived : (s places work : List ℕ) (row : ℕ) (x : Bool) → row < 256 → Charts s (places_in places) work
+pub derived : (s : List ℕ) (places : List (Option ℕ)) (work : List ℕ) (row : ℕ) (x : Bool) → row < 256 → Charts s (places_in places) work
     → x ≡ bit_at work (span_at 0 (length places)) row → (u : List Place) → x ≡ can_hold (sheet_of s) (Derived row) (places_in places) u
 unfolding can_hold sheet_of
 derived s places work row x h c e u =

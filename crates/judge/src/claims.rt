@@ -21,7 +21,7 @@ use sheet_contents::{Assertion, Claim, Run};
 use terms::Places;
 
 // The places from i on can hold b bytes of the text from a on.
-fn holds_at(s: &[u8], a: usize, b: usize, places: &[u16], i: usize, lay: &[u64]) -> bool
+fn holds_at(s: &[u8], a: usize, b: usize, places: &[Option<u8>], i: usize, lay: &[u64]) -> bool
     requires { Good s.now × Ground (sheet_of s.now) lay.now × (a + b ≤ count_of s.now 1) × (i + b ≤ length places.now) }
     ensures { result ≡ fits (pattern (sheet_of s.now) (places_in places.now)) i (stretch 0 (sheet_of s.now).grammar.text a b) }
 {
@@ -31,7 +31,7 @@ fn holds_at(s: &[u8], a: usize, b: usize, places: &[u16], i: usize, lay: &[u64])
 }
 
 // The places can hold them somewhere.
-fn can_contain(s: &[u8], a: usize, b: usize, places: &[u16], lay: &[u64]) -> bool
+fn can_contain(s: &[u8], a: usize, b: usize, places: &[Option<u8>], lay: &[u64]) -> bool
     requires { Good s.now × Ground (sheet_of s.now) lay.now × (a + b ≤ count_of s.now 1) × (length places.now ≤ 60) }
     ensures { (u : List Place) → result ≡ can_hold (sheet_of s.now) (Contains a b) (places_in places.now) u }
 {
@@ -48,7 +48,7 @@ fn can_derive(
     s: &[u8],
     row: usize,
     term: Run,
-    places: &[u16],
+    places: &[Option<u8>],
     held: &mut Option<Run>,
     lay: &[u64],
     work: &mut [u64],
@@ -77,11 +77,11 @@ pub fn can_hold(
     requires { Lent s.now lay.now work.old × SoundClaim (count_of s.now 1) (count_of s.now 2) (count_of s.now 3) (as_claim a.claim) × Sized p.now × Sized q.now × Meant s.now a.term (shown p.now) held.old work.old }
     ensures { (result ≡ can_hold (sheet_of s.now) (as_claim a.claim) (shown p.now) (shown q.now)) × Left s.now (as_claim a.claim) a.term (shown p.now) held.old held.new work.old work.new }
 {
-    let places = &p.of[..p.len];
+    let places = p.places();
     match a.claim {
         Claim::Derived(row) => can_derive(s, row, a.term, places, held, lay, work),
         Claim::Contains(x, y) => can_contain(s, x, y, places, lay),
-        Claim::Equals(_, _) => terms::meets::equal(*p, *q, lay),
-        Claim::ContainsTerm(_, _) => terms::meets::contains(*p, *q, lay),
+        Claim::Equals(_, _) => terms::meets::equal(p, q, lay),
+        Claim::ContainsTerm(_, _) => terms::meets::contains(p, q, lay),
     }
 }

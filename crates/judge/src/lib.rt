@@ -34,7 +34,7 @@ fn can_be(
     requires { Lent s.now lay.now work.old × Told s.now (as_assertion a) × Sized p.now × Sized q.now × Meant s.now a.term (shown p.now) held.old work.old }
     ensures { (result ≡ can (sheet_of s.now) (as_assertion a) (shown p.now) (shown q.now)) × Asked s.now a.term (shown p.now) held.old held.new work.old work.new }
 {
-    if a.denied && (terms::meets::some_unknown(*p) || terms::meets::some_unknown(*q)) {
+    if a.denied && (terms::meets::some_unknown(p) || terms::meets::some_unknown(q)) {
         return true;
     }
     claims::can_hold(s, a, p, q, held, lay, work) != a.denied
@@ -58,8 +58,8 @@ pub fn possible(
     if !terms::inside(s, parts, v.len, a.term) || !terms::inside(s, parts, v.len, second) {
         return false;
     }
-    let p = terms::term(s, parts, *v, a.term);
-    let q = terms::term(s, parts, *v, second);
+    let p = terms::term(s, parts, v, a.term);
+    let q = terms::term(s, parts, v, second);
     can_be(s, a, &p, &q, held, lay, work)
 }
 

@@ -6,7 +6,7 @@ use mathlib.Core.Logic.{◌≢◌}
 use native.Mathlib.Omega.{arith}
 use native.Mathlib.Decide.{dec_lt}
 use borrow.Author.Tests.{eq-eqb, ne_eqb}
-use lib.ListN.{length, get_or, take, drop, length-drop}
+use lib.ListN.{get_or, take, drop, length-drop}
 use lib.Seq.{length-take-le, get_or-take, get_or-drop}
 use Rattle.std.specs.Prelude.{None}
 use Rattle.paper.specs.Terms.{Unknown}

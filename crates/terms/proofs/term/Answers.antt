@@ -2,7 +2,6 @@ use Rattle.paper.specs.Terms.{All}
 use Rattle.terms.specs.Shown.{blank, known_places}
 use Rattle.terms.proofs.Showing.{pasted_none}
 use Rattle.terms.proofs.Joining.{join_start, next_room, join_more, join_end}
-use native.Mathlib.Omega.{arith}
 use Rattle.terms.proofs.term.Goals as goal
 
 pub loop-i-init : goal.loop-i-init

@@ -1,4 +1,3 @@
-use mathlib.Core.Path.{◌≡◌}
 use Rattle.sheet.proofs.Rows.{rows_all}
 use Rattle.chart_cells.proofs.Adding.{adds_none, adds_same, adds_joined}
 use Rattle.chart.proofs.Owning.{long_range}

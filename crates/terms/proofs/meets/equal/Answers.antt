@@ -1,5 +1,4 @@
-use mathlib.Core.Path.{sym, ◌∙◌}
-use native.Mathlib.Omega.{arith}
+use mathlib.Core.Path.{◌∙◌}
 use borrow.Author.Tests.{ne_eqb}
 use Rattle.terms.proofs.Meeting.{lengths_differ, lengths_same}
 use Rattle.terms.proofs.meets.equal.Goals as goal

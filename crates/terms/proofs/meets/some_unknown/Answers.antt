@@ -1,4 +1,4 @@
-use mathlib.Core.Path.{◌≡◌, sym, refl, ◌∙◌}
+use mathlib.Core.Path.{◌≡◌, sym, ◌∙◌}
 use mathlib.Core.List.{List, [], ◌∷◌}
 use borrow.Author.Rules.{rules}
 use borrow.Author.Tests.{tests}
