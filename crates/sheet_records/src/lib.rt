@@ -10,7 +10,7 @@ ghost use Rattle.paper.specs.Records.{record_ok, table_ok};
 ghost use Rattle.sheet_trailer.specs.FirstBad.{FirstBad};
 ghost use Rattle.sheet_trailer.specs.Placed.{Trailed, Laid};
 
-use sheet_trailer::{count_of, table_of, Table, SIZE};
+use sheet_trailer::{SIZE, Table, count_of, table_of};
 
 // The record of table t at o.
 #[tactic(auto, unfolding(paper::specs::Records::record_ok))]

@@ -2,7 +2,7 @@
 ghost use Rattle.std.specs.Prelude.{◌≡◌, ◌+◌, ◌≤◌, ◌<◌, length};
 ghost use Rattle.paper.specs.Records.{letter_ok, row_fields, row_ok, part_fields, part_ok, assert_fields, assert_ok};
 
-use sheet_contents::{claim_of, pair_at, part_of, row_of, Claim, Part, Row};
+use sheet_contents::{Claim, Part, Row, claim_of, pair_at, part_of, row_of};
 
 #[tactic(auto, unfolding(paper::specs::Records::letter_ok))]
 pub fn letter_ok(s: &[u8], o: usize) -> bool
@@ -67,7 +67,8 @@ fn assert_fields(text: usize, rows: usize, parts: usize, kind: u8, a: usize, b: 
     match claim_of(kind, a, b) {
         Some(Claim::Derived(x)) => x < rows && b == 0,
         Some(Claim::Contains(at, count)) => at + count <= text,
-        Some(Claim::Equals(first, count) | Claim::ContainsTerm(first, count)) => first + count <= parts,
+        Some(Claim::Equals(first, count) | Claim::ContainsTerm(first, count)) => first + count
+            <= parts,
         None => false,
     }
 }

@@ -6,7 +6,7 @@ ghost use Rattle.sheet_trailer.specs.FirstBad.{FirstBad};
 ghost use Rattle.sheet_trailer.specs.Placed.{Trailed, Laid};
 ghost use Rattle.sheet_contents.specs.Read.{as_run};
 
-use sheet_contents::{second_run, Part, Run};
+use sheet_contents::{Part, Run, second_run};
 use sheet_trailer::Table;
 
 // The bytes of the part at o.

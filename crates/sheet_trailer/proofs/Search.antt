@@ -4,12 +4,22 @@ use Prim.Native.Nat.{ℕ, zero, suc, ◌+◌, ◌<◌, ◌≤◌}
 use mathlib.Core.Path.{◌≡◌, sym}
 use mathlib.Core.Bool.{Bool, true, false}
 use mathlib.Core.Logic.{⊎_elim}
+use mathlib.Core.List.{List}
 use native.Mathlib.Omega.{arith}
 use native.Mathlib.Nat.{eq-or-lt_of_le}
 use lib.Dec.{eqb}
 use borrow.Author.Tests.{eq-eqb, ne_eqb, eqb-false}
 use borrow.Author.Rules.{rules}
 use Rattle.std.specs.Prelude.{Option, Some, None, MatchOption, is_some, not, IsSome}
+use Rattle.std.specs.Bool.{⊤}
+use Rattle.std.specs.Fn.{CalledAt}
+use Rattle.std.specs.Iterator.{YieldsThen}
+use Rattle.std.specs.List.{FoldsTo}
+use Rattle.std.specs.declared.ops.Range.{Range}
+use Rattle.std.proofs.iter.Yields.{nat_range_steps}
+use Rattle.std.proofs.lemmas.Iterator.{first_from_Range}
+use denote.Param.Members.{Mut}
+use denote.Ref.{Bor}
 use Rattle.paper.specs.Tests.{first_from, first_bad}
 use Rattle.paper.proofs.Tests.{true_or_false}
 use Rattle.sheet_trailer.specs.FirstBad.{FirstBad}
@@ -44,12 +54,17 @@ fails_none ok n p =
     let e = from_all ok n 0 z in
     omega arith
 
--- what `find` answers over the numbers below n, of a closure that is true where the test fails
-pub bad_found : (ok : ℕ → Bool) (n : ℕ) (o : Option ℕ)
+bad_found : (ok : ℕ → Bool) (n : ℕ) (o : Option ℕ)
     → MatchOption o ((k : ℕ) → 0 ≤ k → k < n → ok k ≡ true) (λ i. (0 ≤ i) × (i < n) × (ok i ≡ false) × ((k : ℕ) → 0 ≤ k → k < i → ok k ≡ true))
     → FirstBad ok n o
 bad_found ok n None h = fails_none ok n (λ k l. h k (omega arith) l)
 bad_found ok n (Some i) h = (fails_first ok n i (λ k l. h.3 k (omega arith) l) h.1 h.2, h.1)
+
+-- what `find` answers over the numbers below n, of a closure that is true where the test fails
+pub find_bad : {F : Type 0} {g : Mut F (Bor ℕ × Unit {0}) Bool} (ok : ℕ → Bool) (n : ℕ) (s u : Range ℕ) (f : F) (o : Option ℕ) → s ≡ record { start = 0; end = n }
+    → (xs : List ℕ) × (j : F) × YieldsThen nat_range_steps s xs o u × FoldsTo (λ p x q. CalledAt g p x false q) f xs j × MatchOption o ⊤ (λ x. (h : F) × CalledAt g j x true h)
+    → ((x : ℕ) (q : F) → CalledAt g f x true q → ok x ≡ false) → ((x : ℕ) (q : F) → CalledAt g f x false q → (q ≡ f) × (ok x ≡ true)) → FirstBad ok n o
+find_bad ok n s u f o e ran fails passes = bad_found ok n o (rw e at (first_from_Range s u f o (λ k. ok k ≡ false) (λ k. ok k ≡ true) ran fails passes))
 
 -- none is found exactly where the first that fails is n
 pub none_bad : (ok : ℕ → Bool) (n : ℕ) (o : Option ℕ) (r : Bool) → FirstBad ok n o → is_some o ≡ not r → r ≡ eqb (first_bad ok n) n

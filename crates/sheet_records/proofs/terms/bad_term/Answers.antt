@@ -1,14 +1,13 @@
 use Prim.Native.Nat.{ℕ, ◌+◌, ◌*◌, ◌≤◌, ◌<◌}
-use mathlib.Core.Path.{◌≡◌}
-use mathlib.Core.Bool.{Bool, true, false}
+use mathlib.Core.Path.{◌≡◌, refl}
+use mathlib.Core.Bool.{true}
 use native.Mathlib.Omega.{arith}
 use lib.ListN.{length}
 use Rattle.std.proofs.Common.{rules}
-use Rattle.std.proofs.lemmas.Iterator.{first_from_Range}
 use Rattle.std.proofs.iter.Serving.{serving}
 use Rattle.paper.specs.Trailer.{record_at, count_of}
 use Rattle.paper.specs.Records.{record_ok, assert_fits}
-use Rattle.sheet_trailer.proofs.Search.{bad_found}
+use Rattle.sheet_trailer.proofs.Search.{find_bad}
 use Rattle.sheet_records.proofs.Kept.{kept}
 use Rattle.sheet_records.proofs.terms.bad_term.Goals.{After-table_of-at}
 use Rattle.sheet_records.proofs.terms.bad_term.Goals as goal
@@ -25,8 +24,6 @@ find-requires-clause-callable c = grind (serving, here (goal.at.find-requires-cl
 
 pub returns : goal.returns
 returns c =
-    let x = c.table_of-at.ensures.0 in
-    let ok : ℕ → Bool = λ i. assert_fits c.args.s.now (record_at c.args.s.now 4 i) in
-    rw (← x.counts)
-    (bad_found ok c.table_of-at.result.count c.find.result
-    (first_from_Range _ _ _ c.find.result (λ k. ok k ≡ false) (λ k. ok k ≡ true) c.find.ensures.ran (λ k q h. rw (← x.begins) (search rules)) (λ k q h. rw (← x.begins) (search rules))))
+    let table = c.table_of-at.ensures.0 in
+    rw (← table.counts)
+    (find_bad (λ i. assert_fits c.args.s.now (record_at c.args.s.now 4 i)) _ _ _ _ c.find.result refl c.find.ensures.ran (λ k q h. rw (← table.begins) (search rules)) (λ k q h. rw (← table.begins) (search rules)))
