@@ -1,7 +1,7 @@
 -- What a read sheet holds: its lists by their counts, and the records that stand in them.
 -- Assumes nothing.
 use Prim.Native.Nat.{ℕ, ◌+◌, ◌<◌, ◌≤◌}
-use mathlib.Core.Path.{◌≡◌, refl, ap, ◌∙◌}
+use mathlib.Core.Path.{◌≡◌, refl, sym, ap, ◌∙◌}
 use mathlib.Core.List.{List}
 use mathlib.Core.Bool.{Bool, true, false, ◌&&◌}
 use lib.ListN.{length, get_or, length-drop}
@@ -11,13 +11,23 @@ use borrow.Author.Tests.{lt-ltb, le-leb}
 use native.Mathlib.Omega.{arith}
 use native.Mathlib.Nat.{zero-add}
 use native.Mathlib.Numerals.{add-one}
+use denote.Param.Members.{Mut}
+use Rattle.std.specs.Prelude.{Option, MatchOption}
+use Rattle.std.specs.Bool.{MatchBool}
+use Rattle.std.specs.Fn.{Called}
+use Rattle.std.specs.Iterator.{YieldsThen}
+use Rattle.std.specs.List.{FoldsTo, HoldsAt, AllWithin, range_with_len}
+use Rattle.std.specs.declared.ops.Range.{Range}
+use Rattle.std.proofs.iter.Yields.{nat_range_steps}
+use Rattle.std.proofs.lemmas.Iterator.{cases_from_any, YieldsList-from_range}
+use Rattle.std.proofs.lemmas.List.FromFn.{length-range_with_len, get_or-range_with_len}
 use Rattle.paper.specs.Bytes.{u8_at, OfBytes}
 use Rattle.paper.specs.Tests.{any_below}
 use Rattle.paper.specs.Trailer.{count_of, record_at}
 use Rattle.paper.specs.Rows.{row, no_row}
 use Rattle.paper.specs.Terms.{Part}
 use Rattle.paper.specs.Sheet.{Span, Assertion, span_at, row_at, part_at, assertion_at, of_table, table_of, text_of, grammar_of, sheet_of, letter}
-use Rattle.paper.proofs.Tests.{table_length, table_at, any_of_table, any_intro, and_intro}
+use Rattle.paper.proofs.Tests.{table_length, table_at, any_of_table, any_intro, any_nowhere, and_intro}
 use Rattle.sheet.specs.Good.{Good}
 
 -- a table's length, and what stands at a place of it
@@ -65,6 +75,23 @@ in_span s b k = leb (u8_at s (record_at s 0 k)) b && leb b (u8_at s (record_at s
 pub none_more : (f : ℕ → Bool) (i : ℕ) → any_below i f ≡ false → f i ≡ false → any_below (i + 1) f ≡ false
 unfolding any_below
 none_more f i h g = rw (add-one, g, any_below) h
+
+-- what `any` answers over the numbers below n, of a closure that computes a test
+pub any_found : {F : Type 0} {g : Mut F (ℕ × Unit {0}) Bool} (test : ℕ → Bool) (n : ℕ) (s u : Range ℕ) (f : F) (r : Bool) → s ≡ record { start = 0; end = n }
+    → (xs : List ℕ) × (o : Option ℕ) × (j : F) × YieldsThen nat_range_steps s xs o u × FoldsTo (λ p x q. Called g p (x, tt) false q) f xs j × MatchOption o (r ≡ false) (λ x. (r ≡ true) × ((h : F) × Called g j (x, tt) true h))
+    → ((x : ℕ) (q : F) → Called g f (x, tt) true q → test x ≡ true) → ((x : ℕ) (q : F) → Called g f (x, tt) false q → (q ≡ f) × (test x ≡ false)) → r ≡ any_below n test
+any_found test n s u f r e ran holds fails =
+    some r (cases_from_any u f r (λ x. test x ≡ true) (λ x. test x ≡ false) ran (YieldsList-from_range 0 n n e (omega arith)) holds fails)
+  where
+    at : (k : ℕ) → k < n → get_or (range_with_len 0 n) k 0 ≡ k
+    at k l = get_or-range_with_len 0 n k 0 l ∙ zero-add k
+
+    some : (r : Bool) → MatchBool r ((k : ℕ) × (k < length (range_with_len 0 n)) × HoldsAt (λ x. test x ≡ true) (range_with_len 0 n) k) (AllWithin (λ x. test x ≡ false) (range_with_len 0 n) 0 (length (range_with_len 0 n)))
+        → r ≡ any_below n test
+    some true h =
+        let l : h.0 < n = rw length-range_with_len at h.1 in
+        sym (any_intro n test h.0 l (rw (at h.0 l) at (h.2 0)))
+    some false h = sym (any_nowhere n test (λ k l. rw (at k l) at (h k 0 (omega arith) (rw length-range_with_len l))))
 
 -- a letter lies in one of the ranges
 pub letter_is : (s : List ℕ) (b : ℕ) → b < 256 → letter (sheet_of s) b ≡ any_below (count_of s 0) (in_span s b)

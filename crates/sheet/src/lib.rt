@@ -92,6 +92,7 @@ impl Fault {
 }
 
 // 16 and 17, of a sheet whose tables lie right.
+#[tactic(auto, unfolding(paper::specs::Refusals::content_refusal, crate::specs::Told::told, crate::specs::Told::fault_of))]
 fn check_content(s: &[u8]) -> Result<(), Fault>
     requires { Laid s.now }
     ensures { result ≡ told (content_refusal s.now) }
@@ -110,6 +111,7 @@ fn check_content(s: &[u8]) -> Result<(), Fault>
 }
 
 // 14 to 17, of a sheet with its mark and its total.
+#[tactic(auto, unfolding(paper::specs::Refusals::table_refusal, crate::specs::Told::told, crate::specs::Told::fault_of))]
 fn check_tables(s: &[u8]) -> Result<(), Fault>
     requires { Trailed s.now }
     ensures { result ≡ told (table_refusal s.now) }
@@ -135,6 +137,7 @@ pub struct Takes {
 }
 
 // The first fault of any bytes, for a call that takes so much.
+#[tactic(auto, unfolding(paper::specs::Refusals::refusal, paper::specs::Trailer::total_ok, crate::specs::Told::told, crate::specs::Told::fault_of))]
 pub fn first_fault(s: &[u8], takes: Takes) -> Result<(), Fault>
     requires { takes.last < 10 }
     ensures { result ≡ told (refusal (taken takes) s.now) }
@@ -200,10 +203,8 @@ pub fn text_of(s: &[u8]) -> &[u8]
     requires { Good s.now }
     ensures { result.now ≡ text_of s.now }
 {
-    let t = sheet_trailer::table_of(s, 1);
-    let at = t.at;
-    let end = at + t.count;
-    &s[at..end]
+    let Table { at, count } = sheet_trailer::table_of(s, 1);
+    &s[at..at + count]
 }
 
 // The byte lies in the range at o.
@@ -218,15 +219,6 @@ pub fn is_letter(s: &[u8], b: u8) -> bool
     requires { Good s.now }
     ensures { result ≡ letter (sheet_of s.now) b }
 {
-    let t = sheet_trailer::table_of(s, 0);
-    let at = t.at;
-    let n = t.count;
-    let mut i: usize = 0;
-    while i < n {
-        if in_range(s, at + 2 * i, b) {
-            return true;
-        }
-        i += 1;
-    }
-    false
+    let Table { at, count } = sheet_trailer::table_of(s, 0);
+    (0..count).any(|i| in_range(s, at + 2 * i, b))
 }

@@ -1,17 +1,7 @@
 use mathlib.Core.Path.{sym, ◌∙◌}
-use native.Mathlib.Omega.{arith}
 use Rattle.sheet.proofs.Contents.{assertion_here}
-use Rattle.sheet.proofs.Records.{record_room, record_below}
+use Rattle.sheet.proofs.Records.{record_below}
 use Rattle.sheet.proofs.assertion_at.Goals as goal
-
-pub overflow_mul-i : goal.overflow_mul-i
-overflow_mul-i c = omega (arith, record_room _ 4 (omega arith) _ _ c.requires.0 c.requires.1 c.requires.2)
-
-pub overflow_add-assertions : goal.overflow_add-assertions
-overflow_add-assertions c = omega (arith, record_room _ 4 (omega arith) _ _ c.requires.0 c.requires.1 c.requires.2)
-
-pub assertion_at-requires : goal.assertion_at-requires
-assertion_at-requires c = record_room _ 4 (omega arith) _ _ c.requires.0 c.requires.1 c.requires.2
 
 pub returns : goal.returns
 returns c =

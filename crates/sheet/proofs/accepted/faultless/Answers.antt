@@ -1,4 +1,3 @@
-use native.Mathlib.Omega.{arith}
 use Rattle.sheet.proofs.Good.{good_of}
 use Rattle.sheet.proofs.accepted.faultless.Goals as goal
 

@@ -1,5 +1,4 @@
 use mathlib.Core.Path.{◌≡◌, sym, ◌∙◌}
-use native.Mathlib.Omega.{arith}
 use Rattle.paper.specs.Refusals.{refusal}
 use Rattle.sheet.specs.Told.{taken}
 use Rattle.sheet.proofs.Good.{faultless}
