@@ -9,20 +9,13 @@ use native.Mathlib.Nat.{not-suc-le-zero, le_of_suc-le-suc, le_of_lt}
 use native.Mathlib.Omega.{arith}
 use lib.ListN.{length, get_or, set, length-set}
 use lib.Seq.{get_or-set_other, set-get_or}
-use lib.Bits.{bit_or, bit_xor, or_lt, or_add_and, xor_add_and, xor_self, and_le_l, and_le_r}
-use Rattle.workspace.specs.Bits.{set_bit, four_at, word_at, joined}
+use lib.Bits.{bit_or, or_lt, or_add_and, and_le_r}
+use Rattle.workspace.specs.Bits.{set_bit, words_at, four_at, either_of, word_at, joined}
 use Rattle.workspace.specs.Room.{room, Grows}
 use Rattle.workspace.proofs.Spans.{lt_or_le}
-use Rattle.workspace.proofs.Words.{or_none_left, or_none_right}
 
 pub or_le : (x y : ℕ) → x ≤ bit_or x y
 or_le x y = omega (arith, or_add_and x y, and_le_r x y)
-
-xor_none : (x y : ℕ) → bit_xor x y ≡ 0 → x ≡ y
-xor_none x y e = omega (arith, xor_add_and x y, and_le_l x y, and_le_r x y)
-
-same_xor : (x y : ℕ) → x ≡ y → bit_xor x y ≡ 0
-same_xor x y e = rw e (xor_self y)
 
 -- ---- one answer or the other
 
@@ -81,56 +74,38 @@ module _ (ws : List ℕ) (s a b c d : ℕ) where
       let r3 : room (set l3 (4 * s + 3) d) + d ≡ room l3 + word_at ws s 3 = room_set l3 (4 * s + 3) d (rw n3 (omega arith)) (rw k3 (small (4 * s + 3))) hd ∙ ap (λ z. room l3 + z) k3 in
       omega arith
 
--- where no word gains, the words are the same
-sums : (a b c d w x y z : ℕ) → w ≤ a → x ≤ b → y ≤ c → z ≤ d → bit_or (bit_or (bit_or (bit_xor a w) (bit_xor b x)) (bit_xor c y)) (bit_xor d z) ≢ 0 → w + x + y + z < a + b + c + d
-sums a b c d w x y z ha hb hc hd ne = lt_or_le (w + x + y + z) (a + b + c + d) (λ h. h) (λ h. absurd (ne (none (omega arith) (omega arith) (omega arith) (omega arith))))
+-- where some word differs, the words gain
+sums : (a b c d w x y z : ℕ) → w ≤ a → x ≤ b → y ≤ c → z ≤ d → (a ∷ b ∷ c ∷ d ∷ []) ≢ (w ∷ x ∷ y ∷ z ∷ []) → w + x + y + z < a + b + c + d
+sums a b c d w x y z ha hb hc hd ne = lt_or_le (w + x + y + z) (a + b + c + d) (λ h. h) (λ h. absurd (ne (same (omega arith) (omega arith) (omega arith) (omega arith))))
   where
-    none : a ≡ w → b ≡ x → c ≡ y → d ≡ z → bit_or (bit_or (bit_or (bit_xor a w) (bit_xor b x)) (bit_xor c y)) (bit_xor d z) ≡ 0
-    none p q r t = rw (same_xor a w p, same_xor b x q, same_xor c y r, same_xor d z t)
+    same : a ≡ w → b ≡ x → c ≡ y → d ≡ z → (a ∷ b ∷ c ∷ d ∷ []) ≡ (w ∷ x ∷ y ∷ z ∷ [])
+    same p q r t = rw (p, q, r, t) refl
 
 module _ (ws : List ℕ) (s q : ℕ) where
-  -- the word that `joined` stores
-  abbrev both : ℕ → ℕ
-  both k = bit_or (word_at ws s k) (word_at ws q k)
+  -- the words that `joined` stores
+  abbrev pub both : List ℕ
+  both = either_of (words_at ws s) (words_at ws q)
 
-  abbrev both0 : ℕ
-  both0 = bit_or (get_or ws (4 * s) 0) (get_or ws (4 * q) 0)
-
-  -- what the words gain
-  abbrev pub gain : ℕ
-  gain = bit_or (bit_or (bit_or (bit_xor both0 (get_or ws (4 * s) 0)) (bit_xor (both 1) (word_at ws s 1))) (bit_xor (both 2) (word_at ws s 2))) (bit_xor (both 3) (word_at ws s 3))
-
-  pub merge_still : gain ≡ 0 → (ws ≡ joined ws s ws q) × Grows false ws ws
+  pub merge_still : both ≡ words_at ws s → (ws ≡ joined ws s ws q) × Grows false ws ws
   unfolding joined
-  merge_still e = (sym (four_still ws s both0 (both 1) (both 2) (both 3) (xor_none _ _ e0) (xor_none _ _ e1) (xor_none _ _ e2) (xor_none _ _ e3)), grows_not ws)
+  merge_still e = (sym (four_still ws s _ _ _ _ (at 0) (at 1) (at 2) (at 3)), grows_not ws)
     where
-      e012 : bit_or (bit_or (bit_xor both0 (get_or ws (4 * s) 0)) (bit_xor (both 1) (word_at ws s 1))) (bit_xor (both 2) (word_at ws s 2)) ≡ 0
-      e012 = or_none_left _ (bit_xor (both 3) (word_at ws s 3)) e
+      at : (k : ℕ) → get_or both k 0 ≡ get_or (words_at ws s) k 0
+      at k = ap (λ l. get_or l k 0) e
 
-      e01 : bit_or (bit_xor both0 (get_or ws (4 * s) 0)) (bit_xor (both 1) (word_at ws s 1)) ≡ 0
-      e01 = or_none_left _ (bit_xor (both 2) (word_at ws s 2)) e012
-
-      e0 : bit_xor both0 (get_or ws (4 * s) 0) ≡ 0
-      e0 = or_none_left _ (bit_xor (both 1) (word_at ws s 1)) e01
-
-      e1 : bit_xor (both 1) (word_at ws s 1) ≡ 0
-      e1 = or_none_right (bit_xor both0 (get_or ws (4 * s) 0)) _ e01
-
-      e2 : bit_xor (both 2) (word_at ws s 2) ≡ 0
-      e2 = or_none_right (bit_or (bit_xor both0 (get_or ws (4 * s) 0)) (bit_xor (both 1) (word_at ws s 1))) _ e012
-
-      e3 : bit_xor (both 3) (word_at ws s 3) ≡ 0
-      e3 = or_none_right (bit_or (bit_or (bit_xor both0 (get_or ws (4 * s) 0)) (bit_xor (both 1) (word_at ws s 1))) (bit_xor (both 2) (word_at ws s 2))) _ e
-
-  pub merge_new : gain ≢ 0 → 4 * s + 4 ≤ length ws → ((i : ℕ) → get_or ws i 0 < 2 ^ 64) → Grows true ws (joined ws s ws q)
+  pub merge_new : both ≢ words_at ws s → 4 * s + 4 ≤ length ws → ((i : ℕ) → get_or ws i 0 < 2 ^ 64) → Grows true ws (joined ws s ws q)
   unfolding joined
   merge_new ne h small =
       grows_by
       (omega (
         arith,
-        four_room ws s both0 (both 1) (both 2) (both 3) h (λ i. le_of_lt (small i)) (le_of_lt (or_lt 64 _ _ (small (4 * s)) (small (4 * q)))) (under 1) (under 2) (under 3),
-        sums both0 (both 1) (both 2) (both 3) (get_or ws (4 * s) 0) (word_at ws s 1) (word_at ws s 2) (word_at ws s 3) (or_le _ _) (or_le _ _) (or_le _ _) (or_le _ _) ne,
+        four_room ws s (or (4 * s) (4 * q)) (or (4 * s + 1) (4 * q + 1)) (or (4 * s + 2) (4 * q + 2)) (or (4 * s + 3) (4 * q + 3)) h (λ i. le_of_lt (small i)) (under _ _) (under _ _) (under _ _) (under _ _),
+        sums (or (4 * s) (4 * q)) (or (4 * s + 1) (4 * q + 1)) (or (4 * s + 2) (4 * q + 2)) (or (4 * s + 3) (4 * q + 3)) (get_or ws (4 * s) 0) (word_at ws s 1) (word_at ws s 2) (word_at ws s 3)
+            (or_le _ _) (or_le _ _) (or_le _ _) (or_le _ _) ne,
       ))
     where
-      under : (k : ℕ) → both k ≤ 2 ^ 64
-      under k = le_of_lt (or_lt 64 (word_at ws s k) (word_at ws q k) (small (4 * s + k)) (small (4 * q + k)))
+      or : (i j : ℕ) → ℕ
+      or i j = bit_or (get_or ws i 0) (get_or ws j 0)
+
+      under : (i j : ℕ) → or i j ≤ 2 ^ 64
+      under i j = le_of_lt (or_lt 64 (get_or ws i 0) (get_or ws j 0) (small i) (small j))

@@ -1,6 +1,6 @@
 -- A table's bits: four words a span, and bit r of a span, r below 256, is bit r % 64 of its word r / 64.
 -- A table of four words has the one span 0, and a table of 256 sets of rows the spans 0 to 255.
-use Rattle.std.specs.Prelude.{ℕ, ◌+◌, ◌*◌, ◌/◌, ◌%◌, ◌^◌, Bool, cond, ◌&&◌, List, get_or, set, eqb, ltb}
+use Rattle.std.specs.Prelude.{ℕ, ◌+◌, ◌*◌, ◌/◌, ◌%◌, ◌^◌, Bool, cond, ◌&&◌, List, [], ◌∷◌, get_or, set, eqb, ltb}
 use Rattle.std.specs.Int.Bits.{bit_or}
 
 -- bit k of the word x, 0 or 1
@@ -26,6 +26,15 @@ four_at ws s a b c d = set (set (set (set ws (4 * s) a) (4 * s + 1) b) (4 * s + 
 -- word k of span s
 abbrev pub word_at : List ℕ → (s k : ℕ) → ℕ
 word_at ws s k = get_or ws (4 * s + k) 0
+
+-- the words of span s
+abbrev pub words_at : List ℕ → (s : ℕ) → List ℕ
+words_at ws s = get_or ws (4 * s) 0 ∷ word_at ws s 1 ∷ word_at ws s 2 ∷ word_at ws s 3 ∷ []
+
+-- four words, each with the bits of the other's
+abbrev pub either_of : (x y : List ℕ) → List ℕ
+either_of x y =
+    bit_or (get_or x 0 0) (get_or y 0 0) ∷ bit_or (get_or x 1 0) (get_or y 1 0) ∷ bit_or (get_or x 2 0) (get_or y 2 0) ∷ bit_or (get_or x 3 0) (get_or y 3 0) ∷ []
 
 -- the table with no bit in span s
 unfoldable pub wiped : List ℕ → ℕ → List ℕ

@@ -2,10 +2,11 @@
 
 // The lent workspace: a bit for each row (0 to 255) and each span of a term, four words a span.
 // The same words and bits serve for a set of rows (four words) and for a set of rows a row (1,024 words).
-ghost use Rattle.std.specs.Prelude.{◌≡◌, ℕ, ◌+◌, ◌*◌, ◌≤◌, ◌<◌, length};
+// A table is a flat slice, no slice of four words each: C lends words, and the groundwork keeps others behind its sets.
+ghost use Rattle.std.specs.Prelude.{◌≡◌, ℕ, ◌+◌, ◌*◌, ◌≤◌, ◌<◌, length, slice_index};
 ghost use Rattle.paper.specs.Answers.{words, zeroed};
 ghost use Rattle.workspace.specs.Spans.{span_at};
-ghost use Rattle.workspace.specs.Bits.{bit_at, set_bit, put_bit, four_at, wiped, copied, joined, none_at};
+ghost use Rattle.workspace.specs.Bits.{bit_at, set_bit, put_bit, words_at, four_at, either_of, wiped, copied, joined, none_at};
 ghost use Rattle.workspace.specs.Room.{Grows};
 ghost use Rattle.workspace.specs.Where.{PutWhere};
 ghost use Rattle.workspace.specs.Scan.{in_both, FirstOf};
@@ -32,8 +33,7 @@ pub fn set(ws: &mut [u64], s: usize, r: usize)
     requires { (4 * s + 4 ≤ length ws.old) × (r < 256) }
     ensures { ws.new ≡ set_bit ws.old s r }
 {
-    let w = 4 * s + r / 64;
-    ws[w] = ws[w] | (1u64 << (r % 64));
+    ws[4 * s + r / 64] |= 1 << (r % 64);
 }
 
 // Row r into span s, where the test passed.
@@ -61,8 +61,7 @@ pub fn none(ws: &[u64], s: usize) -> bool
     requires { 4 * s + 4 ≤ length ws.now }
     ensures { result ≡ none_at ws.now s }
 {
-    let i = 4 * s;
-    ws[i] | ws[i + 1] | ws[i + 2] | ws[i + 3] == 0
+    four(ws, s) == [0; 4]
 }
 
 // The first row from p on and below n that the sets at entries a and b both have. Words that have none left are passed over whole.
@@ -85,16 +84,32 @@ pub fn next(ws: &[u64], a: usize, b: usize, p: usize, n: usize) -> Option<usize>
     None
 }
 
-// The words a, b, c, d into span s.
-fn put_four(ws: &mut [u64], s: usize, a: u64, b: u64, c: u64, d: u64)
-    requires { 4 * s + 4 ≤ length ws.old }
-    ensures { ws.new ≡ four_at ws.old s a b c d }
+// The words of span s.
+fn four(ws: &[u64], s: usize) -> [u64; 4]
+    requires { 4 * s + 4 ≤ length ws.now }
+    ensures { result ≡ words_at ws.now s }
 {
     let i = 4 * s;
-    ws[i] = a;
-    ws[i + 1] = b;
-    ws[i + 2] = c;
-    ws[i + 3] = d;
+    [ws[i], ws[i + 1], ws[i + 2], ws[i + 3]]
+}
+
+// These words into span s, one by one: LLVM makes two stores of them, and of `copy_from_slice` half as fast a copy.
+fn put_four(ws: &mut [u64], s: usize, x: [u64; 4])
+    requires { 4 * s + 4 ≤ length ws.old }
+    ensures { ws.new ≡ four_at ws.old s (slice_index x 0) (slice_index x 1) (slice_index x 2) (slice_index x 3) }
+{
+    let i = 4 * s;
+    ws[i] = x[0];
+    ws[i + 1] = x[1];
+    ws[i + 2] = x[2];
+    ws[i + 3] = x[3];
+}
+
+// The rows of both.
+fn either(x: [u64; 4], y: [u64; 4]) -> [u64; 4]
+    ensures { result ≡ either_of x y }
+{
+    [x[0] | y[0], x[1] | y[1], x[2] | y[2], x[3] | y[3]]
 }
 
 // No row left in span s.
@@ -102,7 +117,7 @@ pub fn wipe(ws: &mut [u64], s: usize)
     requires { 4 * s + 4 ≤ length ws.old }
     ensures { ws.new ≡ wiped ws.old s }
 {
-    put_four(ws, s, 0, 0, 0, 0);
+    put_four(ws, s, [0; 4]);
 }
 
 // The rows of entry q of another table, and no other, into span s.
@@ -110,8 +125,7 @@ pub fn copy(ws: &mut [u64], s: usize, from: &[u64], q: usize)
     requires { (4 * s + 4 ≤ length ws.old) × (4 * q + 4 ≤ length from.now) }
     ensures { ws.new ≡ copied ws.old s from.now q }
 {
-    let j = 4 * q;
-    put_four(ws, s, from[j], from[j + 1], from[j + 2], from[j + 3]);
+    put_four(ws, s, four(from, q));
 }
 
 // The rows of entry q of another table, besides those that are there, into span s.
@@ -119,13 +133,7 @@ pub fn join(ws: &mut [u64], s: usize, from: &[u64], q: usize)
     requires { (4 * s + 4 ≤ length ws.old) × (4 * q + 4 ≤ length from.now) }
     ensures { ws.new ≡ joined ws.old s from.now q }
 {
-    let i = 4 * s;
-    let j = 4 * q;
-    let a = ws[i] | from[j];
-    let b = ws[i + 1] | from[j + 1];
-    let c = ws[i + 2] | from[j + 2];
-    let d = ws[i + 3] | from[j + 3];
-    put_four(ws, s, a, b, c, d);
+    put_four(ws, s, either(four(ws, s), four(from, q)));
 }
 
 // Row r into span s. Whether it is new there.
@@ -148,20 +156,12 @@ pub fn merge(ws: &mut [u64], s: usize, q: usize) -> bool
     requires { (4 * s + 4 ≤ length ws.old) × (4 * q + 4 ≤ length ws.old) }
     ensures { (ws.new ≡ joined ws.old s ws.old q) × Grows result ws.old ws.new }
 {
-    let i = 4 * s;
-    let j = 4 * q;
-    let w = ws[i];
-    let x = ws[i + 1];
-    let y = ws[i + 2];
-    let z = ws[i + 3];
-    let a = w | ws[j];
-    let b = x | ws[j + 1];
-    let c = y | ws[j + 2];
-    let d = z | ws[j + 3];
-    if (a ^ w) | (b ^ x) | (c ^ y) | (d ^ z) == 0 {
+    let old = four(ws, s);
+    let both = either(old, four(ws, q));
+    if both == old {
         return false;
     }
-    put_four(ws, s, a, b, c, d);
+    put_four(ws, s, both);
     true
 }
 
@@ -170,9 +170,5 @@ pub fn clear(ws: &mut [u64])
     requires { 7564 ≤ length ws.old }
     ensures { ws.new ≡ zeroed words ws.old }
 {
-    let mut i = 0;
-    while i < paper::WORDS {
-        ws[i] = 0;
-        i += 1;
-    }
+    ws[..paper::WORDS].fill(0);
 }

@@ -3,4 +3,4 @@ use Rattle.workspace.proofs.copy.Goals as goal
 
 pub returns : goal.returns
 unfolding copied
-returns c = c.put_four.ensures
+returns c = rw c.four.ensures at c.put_four.ensures

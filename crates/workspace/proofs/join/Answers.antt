@@ -3,4 +3,4 @@ use Rattle.workspace.proofs.join.Goals as goal
 
 pub returns : goal.returns
 unfolding joined
-returns c = c.put_four.ensures
+returns c = rw (c.either.ensures, c.four.ensures, c.four-2.ensures) at c.put_four.ensures

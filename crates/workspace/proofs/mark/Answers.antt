@@ -1,4 +1,4 @@
-use Prim.Native.Nat.{◌+◌, ◌*◌, ◌/◌, ◌%◌, ◌^◌}
+use Prim.Native.Nat.{◌+◌, ◌*◌, ◌/◌, ◌%◌, ◌^◌, ◌<◌}
 use native.Mathlib.Nat.{le_of_lt}
 use native.Mathlib.Omega.{arith}
 use lib.ListN.{get_or}
@@ -17,6 +17,7 @@ pub returns : goal.returns
 returns c =
     let a = c.args in
     let old = get_or a.ws.now (4 * a.s + a.r / 64) 0 in
+    let old_fits : old < 2 ^ 64 = search rules in
     let mask = (1 * 2 ^ (a.r % 64)) % 2 ^ 64 in
     mark_new a.ws.now a.s a.r (bit_or old mask) (set_is a.ws.now a.s a.r) c.if-x-old.false (or_le old mask)
-    (le_of_lt (or_lt 64 old mask (c.slice_known-1.given (4 * a.s + a.r / 64)).fits (omega arith))) (search rules)
+    (le_of_lt (or_lt 64 old mask old_fits (omega arith))) (search rules)
