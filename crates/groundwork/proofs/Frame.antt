@@ -1,17 +1,14 @@
 -- The frame of the steps that lay the groundwork: the words below a step's own are kept, and with them the bits of their entries.
 -- Assumes nothing.
-use Prim.Native.Nat.{ℕ, ◌+◌, ◌*◌, ◌/◌, ◌≤◌, ◌<◌}
+use Prim.Native.Nat.{ℕ, ◌+◌, ◌*◌, ◌/◌, ◌≤◌}
 use mathlib.Core.Path.{◌≡◌, refl, ◌∙◌}
-use mathlib.Core.Logic.{◌≢◌}
-use mathlib.Core.Bool.{Bool, true, false}
 use mathlib.Core.List.{List}
 use native.Mathlib.Omega.{arith}
-use lib.ListN.{length, set, length-set}
+use lib.ListN.{set, length-set}
 use lib.Seq.{get_or-set_other}
 use borrow.Author.Tests.{le-ltb}
-use Rattle.workspace.specs.Bits.{put_bit, bit_at, set_bit, four_at, wiped, copied}
+use Rattle.workspace.specs.Bits.{bit_at, four_at, wiped, copied}
 use Rattle.workspace.proofs.Spans.{lt_or_le}
-use Rattle.workspace.proofs.Bits.{set_bit_same, set_bit_other, set_bit_apart}
 use Rattle.groundwork.specs.Laying.{Below}
 
 pub below_refl : {k : ℕ} (ws : List ℕ) → Below k ws ws
@@ -48,26 +45,3 @@ module _ {k : ℕ} (ws : List ℕ) (e : ℕ) (l : k ≤ 4 * e) where
   pub below_copied : (from : List ℕ) (q : ℕ) → Below k ws (copied ws e from q)
   unfolding copied
   below_copied from q = below_four _ _ _ _
-
-  pub below_put : (on : Bool) (r : ℕ) → Below k ws (put_bit on ws e r)
-  unfolding put_bit set_bit
-  below_put true r = below_set ws (4 * e + r / 64) _ (omega arith)
-  below_put false r = below_refl ws
-
--- ---- a bit is set where a test passed
-
-module _ (ws : List ℕ) (e r : ℕ) where
-  pub put_same : (on : Bool) → 4 * e + 4 ≤ length ws → r < 256 → bit_at ws e r ≡ false → bit_at (put_bit on ws e r) e r ≡ on
-  unfolding put_bit
-  put_same true room h z = set_bit_same ws e r room h
-  put_same false room h z = z
-
-  pub put_other : (on : Bool) (q : ℕ) → q ≢ r → bit_at (put_bit on ws e r) e q ≡ bit_at ws e q
-  unfolding put_bit
-  put_other true q ne = set_bit_other ws e r q ne
-  put_other false q ne = refl
-
-  pub put_apart : (on : Bool) (t q : ℕ) → t ≢ e → r < 256 → bit_at (put_bit on ws e r) t q ≡ bit_at ws t q
-  unfolding put_bit
-  put_apart true t q ne h = set_bit_apart ws e r t q ne h
-  put_apart false t q ne h = refl

@@ -5,11 +5,9 @@ use mathlib.Core.Path.{◌≡◌, sym, ap, ◌∙◌, subst}
 use mathlib.Core.Logic.{◌⊎◌, inl, inr, ⊎_elim}
 use mathlib.Core.Bool.{Bool, true}
 use mathlib.Core.List.{List}
-use native.Mathlib.Nat.{not-suc-le-zero}
 use native.Mathlib.Omega.{arith}
 use lib.ListN.{length, get_or, set, length-set}
 use lib.Seq.{get_or-set_same, get_or-set_other}
-use borrow.Author.Count.{below_more}
 use Rattle.paper.proofs.Reaching.{outside}
 use Rattle.paper.specs.Rows.{Range, Text, Seq, Star, Grammar, row}
 use Rattle.paper.specs.Sheet.{Sheet, letter, grammar_of, sheet_of}
@@ -17,15 +15,20 @@ use Rattle.paper.specs.Bytes.{OfBytes}
 use Rattle.paper.specs.Tests.{any_below}
 use Rattle.paper.proofs.Tests.{any_intro}
 use Rattle.sheet.proofs.Contents.{some_letter_lem}
-use Rattle.workspace.specs.Bits.{put_bit, bit_at, wiped, copied}
+use lib.Dec.{ltb}
+use mathlib.Core.Bool.{◌&&◌}
+use borrow.Author.Tests.{lt-ltb, le-ltb}
+use Rattle.workspace.specs.Bits.{bit_at, wiped, copied}
+use Rattle.workspace.specs.Where.{put_below}
+use Rattle.workspace.proofs.Where.{put_below_bit, length_put_below, low_put_below}
 use Rattle.workspace.proofs.Spans.{lt_or_le}
-use Rattle.workspace.proofs.Bits.{wiped_bit, copied_bit, copied_apart}
+use Rattle.workspace.proofs.Bits.{length_wiped, wiped_bit, copied_bit, copied_apart}
 use Rattle.sheet_trailer.specs.declared.Table.{Table}
 use Rattle.rows.specs.Sets.{Nulls, Reached, RowsAt}
 use Rattle.sheet.proofs.Rows.{rows_few, rows_all}
 use Rattle.groundwork.specs.Ground.{Ground, pairs_at, pair_word, Splits, some_letter}
 use Rattle.groundwork.specs.Laying.{Below, Closures, Ranges, LettersIn, PairOf, Pairs, Lengths}
-use Rattle.groundwork.proofs.Frame.{below_then, below_less, below_set, below_copied, below_bit, put_same, put_other}
+use Rattle.groundwork.proofs.Frame.{below_then, below_less, below_set, below_wiped, below_copied, below_bit}
 use Rattle.groundwork.proofs.ByKind.{no_row_letter, splits_which, Paired}
 
 -- ---- reach and the empty words
@@ -38,16 +41,20 @@ closures_done g ws null few long r e = record {
 
 -- ---- the ranges that hold a letter
 
-module _ (s : Sheet) (g : Grammar) (ws : List ℕ) (long : length ws ≡ 1294) where
-  pub ranges_none : Ranges s g 0 (wiped ws 257)
-  ranges_none = record { told = λ q h. absurd (not-suc-le-zero h); later = λ q h. wiped_bit ws 257 (omega arith) q }
+-- row q of the table is
+abbrev pub letter_row : Sheet → Grammar → ℕ → Bool
+letter_row s g q = some_letter s (row g q)
 
-  pub ranges_more : (n : ℕ) (on : Bool) → n < 256 → Ranges s g n ws → on ≡ some_letter s (row g n) → Ranges s g (n + 1) (put_bit on ws 257 n)
-  ranges_more n on h t e = record {
-    told = below_more (λ q. bit_at (put_bit on ws 257 n) 257 q ≡ some_letter s (row g q)) n (λ q l. put_other ws 257 n on q (λ z. omega arith) ∙ t.told q l)
-        (put_same ws 257 n on (omega arith) h (t.later n (omega arith)) ∙ e);
-    later = λ q l. put_other ws 257 n on q (λ z. omega arith) ∙ t.later q (omega arith);
-  }
+module _ (s : Sheet) (g : Grammar) (ws : List ℕ) (long : length ws ≡ 1294) (n : ℕ) (few : n ≤ 256) where
+  range_bit : (q : ℕ) → bit_at (put_below (letter_row s g) (wiped ws 257) 257 n) 257 q ≡ (ltb q n && letter_row s g q)
+  range_bit q = put_below_bit (letter_row s g) (wiped ws 257) 257 n (rw length_wiped (omega arith)) few q ∙ rw (wiped_bit ws 257 (omega arith) q)
+
+  pub ranges_done : Ranges s g n (put_below (letter_row s g) (wiped ws 257) 257 n) × Below 1028 ws (put_below (letter_row s g) (wiped ws 257) 257 n)
+  ranges_done = (
+    record { told = λ q l. range_bit q ∙ rw (lt-ltb q n l); later = λ q l. range_bit q ∙ rw (le-ltb q n l) },
+    below_then (below_wiped ws 257 (omega arith))
+        (record { long = length_put_below (letter_row s g) (wiped ws 257) 257 n; same = λ i l. low_put_below (letter_row s g) (wiped ws 257) 257 n i l }),
+  )
 
 -- ---- the pairs
 

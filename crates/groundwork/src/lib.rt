@@ -2,7 +2,7 @@
 
 // The groundwork of a sheet: what every trial reads and no trial changes.
 ghost use Rattle.std.specs.Prelude.{◌≡◌, ◌+◌, ◌*◌, ◌≤◌, ◌<◌, length};
-ghost use Rattle.paper.specs.Rows.{Range};
+ghost use Rattle.paper.specs.Rows.{Range, row};
 ghost use Rattle.paper.specs.Sheet.{grammar_of, sheet_of};
 ghost use Rattle.paper.proofs.Sound.{SoundRow};
 ghost use Rattle.workspace.specs.Bits.{bit_at};
@@ -56,13 +56,12 @@ fn letter_in(s: &[u8], low: usize, high: usize) -> bool
     false
 }
 
-// The row is a range that holds a letter.
-#[tactic(auto, unfolding(crate::specs::Ground::some_letter))]
-fn holds_letter(s: &[u8], r: Row) -> bool
-    requires { Good s.now × SoundRow 1024 256 (as_row r) }
-    ensures { result ≡ some_letter (sheet_of s.now) (as_row r) }
+// Row q is a range that holds a letter.
+fn holds_letter(s: &[u8], t: Table, q: usize) -> bool
+    requires { RowsAt s.now t × (q < t.count) }
+    ensures { result ≡ some_letter (sheet_of s.now) (row (grammar_of s.now) q) }
 {
-    match r {
+    match sheet::row_at(s, t, q) {
         Row::Range(low, high) => letter_in(s, low, high),
         Row::Empty | Row::Text(..) | Row::Alt(..) | Row::Seq(..) | Row::Star(_) => false,
     }
@@ -74,10 +73,7 @@ fn ranges(s: &[u8], t: Table, out: &mut [u64])
     ensures { Ranges (sheet_of s.now) (grammar_of s.now) t.count out.new × Below 1028 out.old out.new }
 {
     workspace::wipe(out, RANGES);
-    for q in 0..t.count {
-        let on = holds_letter(s, sheet::row_at(s, t, q));
-        workspace::put(out, RANGES, q, on);
-    }
+    workspace::put_where(out, RANGES, t.count, |q| holds_letter(s, t, q));
 }
 
 // The rows a and b into which row q splits, as one word with q; if it splits.
