@@ -1,18 +1,20 @@
 -- Whether a read sheet compares v with v, by the places of its tables.
 -- Assumes nothing.
-use Prim.Native.Nat.{ℕ, ◌+◌, ◌-◌, ◌≤◌, ◌<◌}
+use Prim.Native.Nat.{ℕ, zero, suc, ◌+◌, ◌≤◌, ◌<◌}
+use native.Mathlib.Nat.{add-zero, add-suc, suc-add}
+use native.Mathlib.Numerals.{add-one}
+use Rattle.std.specs.List.{list_any, range_with_len}
 use mathlib.Core.Path.{◌≡◌, sym, ap, ◌∙◌}
-use mathlib.Core.Bool.{Bool, true, false}
+use mathlib.Core.Bool.{Bool, true}
 use mathlib.Core.List.{List}
 use native.Mathlib.Omega.{arith}
-use native.Mathlib.Nat.{zero-add}
 use lib.ListN.{length, get_or, take, drop, length-drop}
 use lib.Seq.{length-take-le, get_or-take, get_or-drop}
 use Rattle.paper.specs.Tests.{any_below}
 use Rattle.paper.specs.Trailer.{count_of}
 use Rattle.paper.specs.Terms.{All}
 use Rattle.paper.specs.Sheet.{Run, parts_of, of_table, table_of, part_at, assertion_at, sheet_of}
-use Rattle.paper.proofs.Tests.{same_test, any_intro, any_elim, any_nowhere, any_of_below, any_of_table}
+use Rattle.paper.proofs.Tests.{same_test, any_intro, any_elim, any_none, any_first, any_of_below, any_of_table}
 use Rattle.sheet_contents.specs.declared.Part.{Part}
 use Rattle.sheet_contents.specs.declared.Assertion.{Assertion}
 use Rattle.sheet_contents.specs.Read.{as_part, as_assertion}
@@ -27,6 +29,11 @@ any_as n f g h = same_test _ _ (λ e. one f g h e) (λ e. one g f (λ k l. sym (
     one f g h e =
         let z = any_elim n f e in
         any_intro n g z.0 z.1 (sym (h z.0 z.1) ∙ z.2)
+
+-- some number of a range
+any_range : (p : ℕ → Bool) (a n : ℕ) → list_any p (range_with_len a n) ≡ any_below n (λ k. p (a + k))
+any_range p a zero = sym (any_none (λ k. p (a + k)))
+any_range p a (suc n) = rw (any_range p (a + 1) n, any_first n (λ k. p (a + k))) (simp (add-zero, add-suc, add-one, suc-add))
 
 module _ (s : List ℕ) where
   -- part k of the sheet is all of v or a cut of it
@@ -49,13 +56,8 @@ module _ (s : List ℕ) where
       any_as r.count _ (in_term r.first)
       (λ k i. ap of_v (get_or-take r.count rest k All i ∙ get_or-drop r.first (sheet_of s).parts k All ∙ part_here s (r.first + k) All (omega arith)))
 
-  pub uses_some : (r : Run) (k : ℕ) → r.first + r.count ≤ count_of s 3 → r.first ≤ k → k < r.first + r.count → of_v_at k ≡ true → true ≡ uses_v (sheet_of s) r
-  uses_some r k h l m e =
-      let p : k ≡ r.first + (k - r.first) = omega arith in
-      sym (uses_below r h ∙ any_intro r.count (in_term r.first) (k - r.first) (omega arith) (ap of_v_at (sym p) ∙ e))
-
-  pub uses_none : (r : Run) → r.first + r.count ≤ count_of s 3 → ((k : ℕ) → r.first ≤ k → k < r.first + r.count → of_v_at k ≡ false) → false ≡ uses_v (sheet_of s) r
-  uses_none r h f = sym (uses_below r h ∙ any_nowhere r.count (in_term r.first) (λ k l. f (r.first + k) (omega arith) (omega arith)))
+  pub uses_any : (r : Run) → r.first + r.count ≤ count_of s 3 → list_any of_v_at (range_with_len r.first r.count) ≡ uses_v (sheet_of s) r
+  uses_any r h = any_range of_v_at r.first r.count ∙ sym (uses_below r h)
 
   -- assertion i compares v with v
   abbrev pub compares_at : ℕ → Bool
@@ -64,12 +66,6 @@ module _ (s : List ℕ) where
   pub assertion_told : (i : ℕ) (a : Assertion) → i < count_of s 4 → AssertionRead s i a → compares_v (sheet_of s) (as_assertion a) ≡ compares_at i
   assertion_told i a l h = let d = of_table assertion_at s 4 0 in ap (compares_v (sheet_of s)) (h.same d ∙ assertion_here s i d l)
 
-  some_below : some_compares (sheet_of s) ≡ any_below (count_of s 4) compares_at
+  pub some_any : list_any compares_at (range_with_len 0 (count_of s 4)) ≡ some_compares (sheet_of s)
   unfolding some_compares sheet_of table_of
-  some_below = simp zero-add at (any_of_table (compares_v (sheet_of s)) 0 (count_of s 4) (of_table assertion_at s 4))
-
-  pub some_one : (i : ℕ) → i < count_of s 4 → compares_at i ≡ true → true ≡ some_compares (sheet_of s)
-  some_one i l e = sym (some_below ∙ any_intro (count_of s 4) compares_at i l e)
-
-  pub some_none : ((i : ℕ) → i < count_of s 4 → compares_at i ≡ false) → false ≡ some_compares (sheet_of s)
-  some_none f = sym (some_below ∙ any_nowhere (count_of s 4) compares_at f)
+  some_any = any_range compares_at 0 (count_of s 4) ∙ sym (any_of_table (compares_v (sheet_of s)) 0 (count_of s 4) (of_table assertion_at s 4))

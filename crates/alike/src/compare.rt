@@ -1,21 +1,20 @@
 // Whether a sheet compares v with v: an assertion both of whose terms have all of v or a cut of it.
-ghost use Rattle.std.specs.Prelude.{◌≡◌, ◌+◌, ◌≤◌};
-ghost use Rattle.paper.specs.Sheet.{sheet_of};
+ghost use Rattle.std.specs.Prelude.{◌≡◌, ◌+◌, ◌≤◌, ◌<◌};
+ghost use Rattle.paper.specs.Sheet.{sheet_of, of_table, part_at, assertion_at};
 ghost use Rattle.sheet_trailer.specs.Tables.{TableOf};
-ghost use Rattle.sheet_contents.specs.Read.{as_part, as_run, as_assertion};
+ghost use Rattle.sheet_contents.specs.Read.{as_run};
 ghost use Rattle.sheet.specs.Good.{Good};
-ghost use Rattle.sheet.specs.Readers.{Told};
 ghost use Rattle.alike.specs.Untold.{of_v, uses_v, compares_v, some_compares};
 
-use sheet_contents::{Assertion, Part, Run};
+use sheet_contents::{Part, Run};
 use sheet_trailer::Table;
 
-// Whether a part is all of v or a cut of it.
-#[tactic(auto, unfolding(crate::specs::Untold::of_v))]
-fn of_v(p: Part) -> bool
-    ensures { result ≡ of_v (as_part p) }
+// Whether part i is all of v or a cut of it.
+fn of_v(s: &[u8], parts: Table, i: usize) -> bool
+    requires { Good s.now × TableOf s.now 3 parts × (i < parts.count) }
+    ensures { result ≡ of_v (of_table part_at s.now 3 i) }
 {
-    match p {
+    match sheet::part_at(s, parts, i) {
         Part::Const(..) => false,
         Part::All | Part::Cut(..) => true,
     }
@@ -26,20 +25,15 @@ fn uses_v(s: &[u8], parts: Table, r: Run) -> bool
     requires { Good s.now × TableOf s.now 3 parts × (r.first + r.count ≤ parts.count) }
     ensures { result ≡ uses_v (sheet_of s.now) (as_run r) }
 {
-    for i in r.first..r.first + r.count {
-        if of_v(sheet::part_at(s, parts, i)) {
-            return true;
-        }
-    }
-    false
+    (r.first..r.first + r.count).any(|i| of_v(s, parts, i))
 }
 
-// Whether an assertion compares v with v.
-#[tactic(auto, unfolding(crate::specs::Untold::compares_v))]
-fn compares_v(s: &[u8], parts: Table, a: Assertion) -> bool
-    requires { Good s.now × TableOf s.now 3 parts × Told s.now (as_assertion a) }
-    ensures { result ≡ compares_v (sheet_of s.now) (as_assertion a) }
+// Whether assertion i compares v with v.
+fn compares_v(s: &[u8], parts: Table, assertions: Table, i: usize) -> bool
+    requires { Good s.now × TableOf s.now 3 parts × TableOf s.now 4 assertions × (i < assertions.count) }
+    ensures { result ≡ compares_v (sheet_of s.now) (of_table assertion_at s.now 4 i) }
 {
+    let a = sheet::assertion_at(s, assertions, i);
     uses_v(s, parts, a.term) && uses_v(s, parts, sheet_contents::second_run(a.claim))
 }
 
@@ -48,12 +42,7 @@ pub fn some_compares(s: &[u8]) -> bool
     requires { Good s.now }
     ensures { result ≡ some_compares (sheet_of s.now) }
 {
-    let assertions = sheet_trailer::table_of(s, 4);
     let parts = sheet_trailer::table_of(s, 3);
-    for i in 0..assertions.count {
-        if compares_v(s, parts, sheet::assertion_at(s, assertions, i)) {
-            return true;
-        }
-    }
-    false
+    let assertions = sheet_trailer::table_of(s, 4);
+    (0..assertions.count).any(|i| compares_v(s, parts, assertions, i))
 }
