@@ -1,18 +1,22 @@
 -- What a search's end holds of what is to be said.
-use Rattle.std.specs.Prelude.{◌≡◌, ℕ, ◌≤◌, ◌<◌, cond, eqb, length, take}
-use Rattle.paper.specs.Answers.{Said, Found, None, Spent}
+use Rattle.std.specs.Prelude.{◌≡◌, ℕ, ◌≤◌, length, take}
+use Rattle.paper.specs.Answers as paper
 use Rattle.search.specs.declared.Sought.{Sought}
+use Rattle.search.specs.declared.Sought.TheVariants.{Found, None, Spent}
 
--- what is said where a search ended so: 0 found, with its word, 1 none, 2 spent
-unfoldable pub said_by : Sought → Said
-said_by r =
-    cond (eqb r.number 0) (Found (take r.prefix.len r.prefix.bytes) r.trials)
-    (cond (eqb r.number 1) (None r.trials)
-    (Spent r.trials))
+-- what is said where a search ended so
+unfoldable pub said_by : Sought → paper.Said
+said_by (Found p t) = paper.Found (take p.len p.bytes) t
+said_by (None t) = paper.None t
+said_by (Spent t) = paper.Spent t
 
--- the search's end r holds what is said, a; where no word was found its prefix is empty
-pub record Tells (hi : ℕ) (a : Said) (r : Sought) : Type 0 where
-  pub within : r.prefix.len ≤ hi
-  pub wordless : 0 < r.number → r.prefix.len ≡ 0
-  pub long : length r.prefix.bytes ≡ 60
+-- the word found has at most `hi` bytes of the 60
+abbrev pub Short : ℕ → Sought → Type 0
+Short hi (Found p t) = (p.len ≤ hi) × (length p.bytes ≡ 60)
+Short hi (None t) = Unit {0}
+Short hi (Spent t) = Unit {0}
+
+-- the search's end r holds what is said, a
+pub record Tells (hi : ℕ) (a : paper.Said) (r : Sought) : Type 0 where
+  pub within : Short hi r
   pub said : a ≡ said_by r

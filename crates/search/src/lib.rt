@@ -3,7 +3,7 @@
 // The search: the walk under the budget, each prefix judged.
 pub mod letters;
 
-ghost use Rattle.std.specs.Prelude.{◌≡◌, ◌≤◌, length, take};
+ghost use Rattle.std.specs.Prelude.{◌≡◌, ◌≤◌};
 ghost use Rattle.paper.specs.Trailer.{longest};
 ghost use Rattle.paper.specs.Sheet.{sheet_of};
 ghost use Rattle.paper.specs.Opens.{opens};
@@ -16,37 +16,20 @@ ghost use Rattle.groundwork.specs.Lent.{Lent};
 ghost use Rattle.workspace.specs.Within.{Within};
 ghost use Rattle.search.specs.Tells.{Tells};
 
-// How a search ended: the number 0, 1 or 2, the word, the trials.
+use walk_state::{Letters, Prefix, State};
+
+// How a search ended: with a word, or without; and its trials.
 #[derive(Clone, Copy)]
-pub struct Sought {
-    pub number: u8,
-    pub prefix: walk_state::Prefix,
-    pub trials: u64,
+pub enum Sought {
+    Found(Prefix, u64),
+    None(u64),
+    Spent(u64),
 }
 
-// An end with no word: none, 1, or spent, 2.
-fn wordless(number: u8, trials: u64) -> Sought
-    ensures { (result.number ≡ number) × (result.prefix.len ≡ 0) × (result.trials ≡ trials) }
-{
-    let prefix = walk_state::Prefix::empty();
-    Sought {
-        number,
-        prefix,
-        trials,
-    }
-}
-
-// The first `len` bytes are open at n.
-fn judged(s: &[u8], bytes: &[u8], len: usize, n: usize, lay: &[u64], work: &mut [u64]) -> bool
-    requires { Lent s.now lay.now work.old × (len ≤ n) × (len ≤ length bytes.now) × (n ≤ longest s.now) }
-    ensures { (result ≡ opens (sheet_of s.now) n (take len bytes.now)) × Within work.old work.new }
-{
-    judge::opens(s, &bytes[0..len], n, lay, work)
-}
-
+// One loop over the prefixes of all lengths, for the budget and the trials run on from each length to the next.
 pub fn seek(
     s: &[u8],
-    letters: walk_state::Letters,
+    letters: Letters,
     slot: &[u8; 256],
     lo: usize,
     hi: usize,
@@ -57,31 +40,26 @@ pub fn seek(
     requires { Lent s.now lay.now work.old × (lo ≤ hi) × (hi ≡ longest s.now) × Classes (opens (sheet_of s.now)) slot.now × Small slot.now }
     ensures { Tells hi (under budget («walk_of» (has_letter letters.of) (opens (sheet_of s.now)) lo hi)) result × Within work.old work.new }
 {
-    let mut counts = [0u64; 480];
+    let mut counts: walk::Counts = [[None; 8]; 60];
     let mut n = lo;
-    let mut q = walk_state::State::start();
+    let mut q = State::start();
     while q.trials < budget {
         let p = q.prefix;
-        let bytes = p.bytes;
-        let ok = judged(s, &bytes, p.len, n, lay, work);
-        if walk::is_word(ok, p.len, n) {
-            return Sought {
-                number: 0,
-                prefix: p,
-                trials: q.trials + 1,
-            };
+        let ok = judge::opens(s, &p.bytes[..p.len], n, lay, work);
+        if ok && p.len == n {
+            return Sought::Found(p, q.trials + 1);
         }
-        q = walk::advance(letters, slot, budget, n, ok, q, &mut counts);
-        if q.over {
-            return wordless(2, budget);
-        }
+        let Some(next) = walk::advance(letters, slot, budget, n, ok, q, &mut counts) else {
+            return Sought::Spent(budget);
+        };
+        q = next;
         if q.prefix.len == 0 {
             if n == hi {
-                return wordless(1, q.trials);
+                return Sought::None(q.trials);
             }
             n += 1;
             q = q.again();
         }
     }
-    wordless(2, budget)
+    Sought::Spent(budget)
 }

@@ -1,10 +1,6 @@
-use Prim.Native.Nat.{◌-◌, ◌≤◌}
 use Rattle.search.proofs.Lettered.{RangesTo}
 use Rattle.search.proofs.letters.letters_of.Given as goal
 
 -- the letters are those of the first i ranges
 abbrev pub invariant-loop-i : goal.invariant-loop-i
-invariant-loop-i l = RangesTo l.s l.i l.l.of × (l.i ≤ l.n)
-
-abbrev pub decreases-loop-i : goal.decreases-loop-i
-decreases-loop-i l = l.n - l.i
+invariant-loop-i l = RangesTo l.s l.i l.l.of
