@@ -20,9 +20,9 @@ use Rattle.walk_state.specs.Letters.{has_letter}
 use Rattle.search.specs.Tells.{Tells}
 use Rattle.search.specs.declared.Sought.{Sought}
 use Rattle.sheet.specs.declared.Fault.{Fault}
-use Rattle.sheet.specs.Told.{told}
+use Rattle.std.specs.Prelude.{Ok, Err}
+use Rattle.sheet.specs.Told.{fault_of}
 use Rattle.solver.specs.declared.Solved.{Solved}
-use Rattle.solver.specs.declared.Solved.TheVariants as case
 use Rattle.solver.specs.Reported.{solved}
 
 -- ---- the walk of the search is the sheet's
@@ -73,12 +73,12 @@ cleared_same s budget work w v k e =
 
 module _ (s : List ℕ) (budget : ℕ) (work out : List ℕ) where
   -- a refusal as the promise words it
-  pub refusing : (x : paper.Fault) (f : Fault) → says s budget work out ≡ Refused x → f ≡ told x → Solves solved s budget work out (case.Refused f) work out
+  pub refusing : (x : paper.Fault) (f : Fault) → says s budget work out ≡ Refused x → f ≡ fault_of x → Solves solved s budget work out (Err f) work out
   refusing x f e t = record { said = rw (e, t); cleared = rw e; wrote = rw e }
 
   -- an answer as the promise words it
   pub answering : (r : Solved) (work' out' : List ℕ) → let a = under budget (walk_of (sheet_of s)) in
-      says s budget work out ≡ a → (r ≡ solved a) × ((work' ≡ work_after a work) × (out' ≡ out_after a out)) → Solves solved s budget work out r work' out'
+      says s budget work out ≡ a → (Ok r ≡ solved a) × ((work' ≡ work_after a work) × (out' ≡ out_after a out)) → Solves solved s budget work out (Ok r) work' out'
   answering r work' out' e p = record { said = rw e p.0; cleared = rw e p.1.0; wrote = rw e p.1.1 }
 
   pub says_refused : 0 < (solver_refusal s (length work) (length out)).number → says s budget work out ≡ Refused (solver_refusal s (length work) (length out))

@@ -1,25 +1,28 @@
-use mathlib.Core.Path.{sym, ap, ◌∙◌}
+use lib.Seq.{length-take-le}
 use native.Mathlib.Omega.{arith}
-use Rattle.search.proofs.Tellings.{tells_fills}
-use Rattle.solver.specs.Reported.{solved}
+use Rattle.search.specs.Tells.{said_by}
 use Rattle.solver.proofs.Solving.{cleared_same}
 use Rattle.solver.proofs.answer.Goals as goal
 
-pub put_word-requires : goal.put_word-requires
-put_word-requires c =
-    let within = c.searched-r.ensures.0.within in
-    (omega (arith, c.requires.0.short, within), omega (arith, within, c.requires.2))
-
-pub tell-requires : goal.tell-requires
-tell-requires c =
-    let told = c.searched-r.ensures.0 in
-    (omega (arith, c.requires.0.short, told.within), told.long)
-
-pub returns : goal.returns
-returns c =
-    let told = c.searched-r.ensures.0 in
+pub returns-in-Found : goal.returns-in-Found
+unfolding said_by
+returns-in-Found c =
+    let told = c.in-Found.ensures.0 in
+    let short = length-take-le c.in-Found.word.len c.in-Found.word.bytes (omega (arith, c.requires.0.short, told.within.0, told.within.1)) in
     record {
-      said = c.tell.ensures ∙ sym (ap solved told.said);
-      cleared = cleared_same _ _ _ _ _ c.searched-r.ensures.1 c.clear.ensures;
-      wrote = c.put_word.ensures ∙ sym (tells_fills told _);
+      said = rw (told.said, short);
+      cleared = cleared_same _ _ _ _ _ c.in-Found.ensures.1 c.clear.ensures;
+      wrote = rw told.said c.put_word.ensures;
     }
+
+pub returns-in-None : goal.returns-in-None
+unfolding said_by
+returns-in-None c =
+    let told = c.in-None.ensures.0 in
+    record { said = rw told.said; cleared = cleared_same _ _ _ _ _ c.in-None.ensures.1 c.clear.ensures; wrote = rw told.said }
+
+pub returns-in-Spent : goal.returns-in-Spent
+unfolding said_by
+returns-in-Spent c =
+    let told = c.in-Spent.ensures.0 in
+    record { said = rw told.said; cleared = cleared_same _ _ _ _ _ c.in-Spent.ensures.1 c.clear.ensures; wrote = rw told.said }
