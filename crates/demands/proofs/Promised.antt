@@ -3,7 +3,7 @@
 use mathlib.Core.Path.{ap, ◌∙◌}
 use Rattle.paper.specs.Answers.{report_of}
 use Rattle.paper.specs.Editions.{ToSecond, ToFirst}
-use Rattle.paper.specs.Promises.{says, Solves, Makes, Moves, Gates}
+use Rattle.paper.specs.Promises.{Solves, Makes, Moves, Gates}
 use Rattle.solver.specs.Reported as solver
 use Rattle.solver.proofs.Coincide.{reports}
 use Rattle.solver.proofs.solve.Reads as solve
@@ -20,7 +20,7 @@ use Rattle.gate.proofs.gate.Reads as gate
 
 pub solve_promised : (κs : _) (a : _) (r : _) (e : _) → solve.Learnt κs a r e
     → Solves report_of a.0.now a.1.0 a.1.1.0.now a.1.1.1.0.now (solver.reported r) e.1.1.0.now e.1.1.1.0.now
-solve_promised κs a r e p = record { said = ap solver.reported p.said ∙ reports (says a.0.now a.1.0 a.1.1.0.now a.1.1.1.0.now); cleared = p.cleared; wrote = p.wrote }
+solve_promised κs a r e p = record { said = ap solver.reported p.said ∙ reports _ _ _ _; cleared = p.cleared; wrote = p.wrote }
 
 pub make_promised : (κs : _) (a : _) (r : _) (e : _) → make.Learnt κs a r e
     → Makes (λ q. q) a.0.now a.1.0 a.1.1.0 a.1.1.1.0.now (reported r) e.1.1.1.0.now

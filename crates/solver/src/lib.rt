@@ -37,7 +37,7 @@ fn searched(s: &[u8], budget: u64, work: &mut [u64]) -> Sought
     ensures { Tells (longest s.now) (under budget (walk_of (sheet_of s.now))) result × Within work.old work.new }
 {
     let l = search::letters::letters_of(s);
-    let mut lay = [0u64; 1294];
+    let mut lay = [0u64; groundwork::SIZE];
     groundwork::lay(s, &l.of, &mut lay);
     let slots = alike::slots_of(s);
     let lo = sheet_trailer::shortest(s);

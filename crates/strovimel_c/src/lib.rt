@@ -8,6 +8,8 @@ ghost use Rattle.solver.specs.Reported.{reported};
 ghost use Rattle.sheet.specs.Told.{reported as writing};
 ghost use Rattle.strovimel_c.specs.Structs.{solved_of, solved_report, made_of, made_report};
 
+use sheet::Fault;
+
 // The solver's answer: its number, the table and the record at fault, the word's length, the trials.
 #[repr(C)]
 #[derive(Drop)]
@@ -29,57 +31,59 @@ pub struct Made {
     pub length: u32,
 }
 
-fn tell_solved(a: solver::Solved) -> Solved
-    requires { (reported a).length < 4294967296 }
-    ensures { solved_report result ≡ reported a }
+// As C is told it; a function, as `from` of `From` has no `requires`, and the length has to fit 32 bits.
+fn tell_solved(answer: Result<solver::Solved, Fault>) -> Solved
+    requires { (reported answer).length < 4294967296 }
+    ensures { solved_report result ≡ reported answer }
 {
-    match a {
-        solver::Solved::Found(length, trials) => Solved {
+    match answer {
+        Ok(solver::Solved::Found(length, trials)) => Solved {
             number: 0,
             table: 0,
             record: 0,
             length: length as u32,
-            trials: trials,
+            trials,
         },
-        solver::Solved::None(trials) => Solved {
+        Ok(solver::Solved::None(trials)) => Solved {
             number: 1,
             table: 0,
             record: 0,
             length: 0,
-            trials: trials,
+            trials,
         },
-        solver::Solved::Spent(trials) => Solved {
+        Ok(solver::Solved::Spent(trials)) => Solved {
             number: 2,
             table: 0,
             record: 0,
             length: 0,
-            trials: trials,
+            trials,
         },
-        solver::Solved::Refused(f) => Solved {
-            number: f.number,
-            table: f.table,
-            record: f.record,
+        Err(fault) => Solved {
+            number: fault.number(),
+            table: fault.table(),
+            record: fault.record(),
             length: 0,
             trials: 0,
         },
     }
 }
 
-fn tell_made(a: sheet::Made) -> Made
-    requires { (writing a).length < 4294967296 }
-    ensures { made_report result ≡ writing a }
+// So for a call that writes, for the same reason.
+fn tell_made(answer: Result<usize, Fault>) -> Made
+    requires { (writing answer).length < 4294967296 }
+    ensures { made_report result ≡ writing answer }
 {
-    match a {
-        sheet::Made::Written(length) => Made {
+    match answer {
+        Ok(length) => Made {
             number: 0,
             table: 0,
             record: 0,
             length: length as u32,
         },
-        sheet::Made::Refused(f) => Made {
-            number: f.number,
-            table: f.table,
-            record: f.record,
+        Err(fault) => Made {
+            number: fault.number(),
+            table: fault.table(),
+            record: fault.record(),
             length: 0,
         },
     }
