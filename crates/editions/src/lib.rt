@@ -11,9 +11,10 @@ ghost use Rattle.sheet.specs.Good.{Good};
 ghost use Rattle.editions.specs.Puts.{ending, moving, Puts};
 
 use sheet::{Fault, Takes};
-use sheet_trailer::trailer_size;
+use sheet_trailer::{mark, trailer_size};
 
 // The new bytes of edition e at o, all zero: the first edition has none.
+#[tactic(auto, using(numbers::proofs::Stores::put_none), unfolding(paper::specs::Bytes::u32, paper::specs::Bytes::u16))]
 fn put_zeros(out: &mut [u8], o: usize, e: usize) -> usize
     requires { o + 4 ≤ length out.old }
     ensures { Put (zeros e) o out.old out.new result }
@@ -30,10 +31,11 @@ fn put_ending(out: &mut [u8], o: usize, total: usize, e: usize) -> usize
     ensures { Put (ending total e) o out.old out.new result }
 {
     let t = numbers::put_u32(out, o, total);
-    numbers::put_bytes(out, t, &[b'P', b'R', b'M', 48 + e as u8])
+    numbers::put_bytes(out, t, &mark(e))
 }
 
 // The sheet in edition e at the start of the space.
+#[tactic(auto, using(crate::proofs::Moved::moved_length, crate::proofs::Moved::zeros_length), unfolding(paper::specs::Trailer::base))]
 fn put_sheet(s: &[u8], e: usize, out: &mut [u8])
     requires { Good s.now × (1 ≤ e) × (e ≤ 2) × (length (in_edition e s.now) ≤ length out.old) }
     ensures { out.new ≡ written (in_edition e s.now) out.old }
@@ -45,6 +47,7 @@ fn put_sheet(s: &[u8], e: usize, out: &mut [u8])
 }
 
 // The sheet in edition e and its length, where there is room.
+#[tactic(auto, using(crate::proofs::Answers::puts_refused, crate::proofs::Answers::puts_written, crate::proofs::Moved::moved_length), unfolding(paper::specs::Trailer::base))]
 fn put(s: &[u8], e: usize, out: &mut [u8]) -> Result<usize, Fault>
     requires { Good s.now × (1 ≤ e) × (e ≤ 2) }
     ensures { Puts e s.now out.old result out.new }

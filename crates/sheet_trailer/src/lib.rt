@@ -1,7 +1,7 @@
 #![tactic(auto)]
 
 // A sheet's trailer: its edition, its fields by name, its rules, and the faults 12 to 15.
-ghost use Rattle.std.specs.Prelude.{◌≡◌, ◌+◌, ◌≤◌, ◌<◌, length};
+ghost use Rattle.std.specs.Prelude.{◌≡◌, ◌+◌, ◌≤◌, ◌<◌, [], ◌∷◌, length};
 ghost use Rattle.paper.specs.Trailer.{edition, trailer_size, base, field, shortest, longest, count_of, new_byte, rules_of, mark_ok, total_ok, lengths_ok, rules_ok, count_ok, offsets_ok};
 ghost use Rattle.paper.specs.Rules as paper;
 ghost use Rattle.sheet_trailer.specs.FirstBad.{FirstBad};
@@ -20,7 +20,15 @@ fn edition(s: &[u8]) -> usize
     requires { 1 ≤ length s.now }
     ensures { (result ≡ «edition» s.now) × (result < 256) }
 {
-    usize::from(s[s.len() - 1]).saturating_sub(48)
+    usize::from(s[s.len() - 1].saturating_sub(b'0'))
+}
+
+// An edition's mark.
+pub fn mark(e: usize) -> [u8; 4]
+    requires { e < 10 }
+    ensures { result ≡ 80 ∷ 82 ∷ 77 ∷ (48 + e) ∷ [] }
+{
+    [b'P', b'R', b'M', b'0' + e as u8]
 }
 
 // The bytes of an edition's trailer.
@@ -132,7 +140,7 @@ pub fn mark_ok(s: &[u8], first: usize, last: usize) -> bool
     ensures { result ≡ mark_ok first last s.now }
 {
     let e = edition(s);
-    first <= e && e <= last && numbers::mark_at(s, s.len() - 4, &[b'P', b'R', b'M', 48 + e as u8])
+    first <= e && e <= last && numbers::mark_at(s, s.len() - 4, &mark(e))
 }
 
 #[tactic(auto, unfolding(paper::specs::Trailer::total_ok))]

@@ -1,5 +1,5 @@
 use Prim.Native.Nat.{◌+◌, ◌*◌, ◌≤◌}
-use mathlib.Core.Path.{◌≡◌, sym}
+use mathlib.Core.Path.{◌≡◌}
 use mathlib.Core.List.{◌++◌}
 use native.Mathlib.Omega.{arith}
 use lib.ListN.{length, take}
@@ -21,24 +21,11 @@ within c = length-take-le _ _ (omega (arith, c.base-at.ensures, c.requires.0.tra
 room : (c : After-base-at) → c.base-at.result + (28 + 4 * c.args.e) ≤ length c.args.out.now
 room c = omega (arith, c.base-at.ensures, c.requires.3, moved_length c.args.s.now c.requires.0.trailed c.args.e c.requires.1 c.requires.2)
 
-small : (c : After-base-at) → c.base-at.result ≤ 65536
-unfolding base
-small c = omega (arith, c.base-at.ensures, c.requires.0.small)
-
-pub overflow_add-at : goal.overflow_add-at
-overflow_add-at c = omega (arith, small (goal.at.overflow_add-at c).After-base-at)
-
-pub slice_bounds-put_bytes-end : goal.slice_bounds-put_bytes-end
-slice_bounds-put_bytes-end c = sym (within (goal.at.slice_bounds-put_bytes-end c).After-base-at)
-
 pub put_bytes-p-requires : goal.put_bytes-p-requires
 put_bytes-p-requires c = omega (arith, within (goal.at.put_bytes-p-requires c).After-base-at, room (goal.at.put_bytes-p-requires c).After-base-at)
 
 pub put_zeros-z-requires : goal.put_zeros-z-requires
 put_zeros-z-requires c = omega (arith, c.put_bytes-p.ensures.stop, c.put_bytes-p.auto, within (goal.at.put_zeros-z-requires c).After-base-at, room (goal.at.put_zeros-z-requires c).After-base-at)
-
-pub overflow_add-at-2 : goal.overflow_add-at-2
-overflow_add-at-2 c = omega (arith, small (goal.at.overflow_add-at-2 c).After-base-at)
 
 pub put_ending-requires : goal.put_ending-requires
 put_ending-requires c =
