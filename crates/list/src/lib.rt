@@ -12,81 +12,91 @@ ghost use Rattle.list.specs.Read.{Trailed, option_from};
 
 use crate::fields::{Fields, Kind, Trailer, fields_at, trailer_of, trailer_ok};
 
-// What an option's kind asks of its fields: 1 only at m = 1 with a ≤ b ≤ 255; 2 only with b = m ≥ 1, inside the text lent;
-// 3 with 0 < k < m and both rows below the row count; 4 only at m = 0; unused fields zero.
-#[tactic(auto, unfolding(paper::specs::Gate::option_fields))]
-fn option_fields(text: usize, rows: usize, m: usize, f: Fields) -> bool
-    requires { (f.a < 65536) × (f.b < 65536) }
-    ensures { result ≡ option_fields text rows m f.kind f.k f.a f.b }
-{
-    match Kind::of(f.kind) {
-        Some(Kind::Byte) => m == 1 && f.k == 0 && f.a <= f.b && f.b <= 255,
-        Some(Kind::Stretch) => f.b == m && 1 <= m && f.k == 0 && f.a + f.b <= text,
-        Some(Kind::Split) => 0 < f.k && f.k < m && f.a < rows && f.b < rows,
-        Some(Kind::Nil) => m == 0 && f.k == 0 && f.a == 0 && f.b == 0,
-        None => false,
-    }
+// A list whose trailer is right, and how many bytes its text has.
+#[derive(Clone, Copy)]
+struct CutList<'a> {
+    bytes: &'a [u8],
+    t: Trailer,
+    text: usize,
+    ghost trailed: { Trailed bytes.now t },
 }
 
-#[tactic(auto, unfolding(paper::specs::Gate::option_ok))]
-fn option_ok(list: &[u8], t: Trailer, text: usize, m: usize, o: usize) -> bool
-    requires { Trailed list.now t × (o + 8 ≤ length list.now) }
-    ensures { result ≡ option_ok list.now text m o }
-{
-    numbers::u16_at(list, o + 6) == 0 && option_fields(text, t.rows, m, fields_at(list, o))
-}
-
-// The options from o on.
-fn options_ok(list: &[u8], t: Trailer, text: usize, m: usize, o: usize, count: usize) -> bool
-    requires { Trailed list.now t × (o + 8 * count ≤ length list.now) }
-    ensures { result ≡ all_below count (option_from list.now text m o) }
-{
-    (0..count).all(|j| option_ok(list, t, text, m, o + 8 * j))
-}
-
-// Row r's head at o, and its options: where they end, if they obey. The end is looked at before the options are.
-fn entry(list: &[u8], t: Trailer, text: usize, m: usize, r: usize, o: usize) -> Option<usize>
-    requires { Trailed list.now t × (o ≡ head_at list.now m r) × (o ≤ t.base) }
-    ensures { result ≡ then_some (entry_ok list.now text m r) (head_end list.now o) }
-{
-    if o + 8 > t.base {
-        return None;
+impl<'a> CutList<'a> {
+    // What an option's kind asks of its fields: 1 only at m = 1 with a ≤ b ≤ 255; 2 only with b = m ≥ 1, inside the text lent;
+    // 3 with 0 < k < m and both rows below the row count; 4 only at m = 0; unused fields zero.
+    #[tactic(auto, unfolding(paper::specs::Gate::option_fields))]
+    fn option_fields(&self, m: usize, f: Fields) -> bool
+        requires { (f.a < 65536) × (f.b < 65536) }
+        ensures { result ≡ option_fields self.now.text self.now.t.rows m f.kind f.k f.a f.b }
+    {
+        match Kind::of(f.kind) {
+            Some(Kind::Byte) => m == 1 && f.k == 0 && f.a <= f.b && f.b <= 255,
+            Some(Kind::Stretch) => f.b == m && 1 <= m && f.k == 0 && f.a + f.b <= self.text,
+            Some(Kind::Split) => 0 < f.k && f.k < m && f.a < self.t.rows && f.b < self.t.rows,
+            Some(Kind::Nil) => m == 0 && f.k == 0 && f.a == 0 && f.b == 0,
+            None => false,
+        }
     }
-    let count = numbers::u32_at(list, o + 4);
-    let end = o + 8 + 8 * count;
-    let ok = end <= t.base
-        && numbers::u16_at(list, o) == r
-        && usize::from(list[o + 2]) == m
-        && list[o + 3] == 0
-        && options_ok(list, t, text, m, o + 8, count);
-    ok.then_some(end)
-}
 
-// Group m, which is to begin at `at`, a head for each row: where it ends, if it obeys.
-fn group(list: &[u8], t: Trailer, text: usize, m: usize, at: usize) -> Option<usize>
-    requires { Trailed list.now t × (m ≤ t.n) × (at ≡ group_begin list.now m) × (at ≤ t.base) }
-    ensures { result ≡ then_some (group_ok list.now text m) (group_begin list.now (m + 1)) }
-{
-    if numbers::u32_at(list, t.base + 4 * m) != at {
-        return None;
+    #[tactic(auto, unfolding(paper::specs::Gate::option_ok))]
+    fn option_ok(&self, m: usize, o: usize) -> bool
+        requires { o + 8 ≤ length self.now.bytes.now }
+        ensures { result ≡ option_ok self.now.bytes.now self.now.text m o }
+    {
+        numbers::u16_at(self.bytes, o + 6) == 0 && self.option_fields(m, fields_at(self.bytes, o))
     }
-    let mut o = at;
-    for r in 0..t.rows {
-        o = entry(list, t, text, m, r, o)?;
-    }
-    Some(o)
-}
 
-// Where the groups end, if they meet from 0 on and each obeys.
-fn groups(list: &[u8], t: Trailer, text: usize) -> Option<usize>
-    requires { Trailed list.now t }
-    ensures { result ≡ then_some (all_below (suc (n_of list.now)) (group_ok list.now text)) (group_begin list.now (suc (n_of list.now))) }
-{
-    let mut at = 0;
-    for m in 0..=t.n {
-        at = group(list, t, text, m, at)?;
+    // The options from o on.
+    fn options_ok(&self, m: usize, o: usize, count: usize) -> bool
+        requires { o + 8 * count ≤ length self.now.bytes.now }
+        ensures { result ≡ all_below count (option_from self.now.bytes.now self.now.text m o) }
+    {
+        (0..count).all(|j| self.option_ok(m, o + 8 * j))
     }
-    Some(at)
+
+    // Row r's head at o, and its options: where they end, if they obey. The end is looked at before the options are.
+    fn entry(&self, m: usize, r: usize, o: usize) -> Option<usize>
+        requires { (o ≡ head_at self.now.bytes.now m r) × (o ≤ self.now.t.base) }
+        ensures { result ≡ then_some (entry_ok self.now.bytes.now self.now.text m r) (head_end self.now.bytes.now o) }
+    {
+        if o + 8 > self.t.base {
+            return None;
+        }
+        let count = numbers::u32_at(self.bytes, o + 4);
+        let end = o + 8 + 8 * count;
+        let ok = end <= self.t.base
+            && numbers::u16_at(self.bytes, o) == r
+            && usize::from(self.bytes[o + 2]) == m
+            && self.bytes[o + 3] == 0
+            && self.options_ok(m, o + 8, count);
+        ok.then_some(end)
+    }
+
+    // Group m, which is to begin at `at`, a head for each row: where it ends, if it obeys.
+    fn group(&self, m: usize, at: usize) -> Option<usize>
+        requires { (m ≤ self.now.t.n) × (at ≡ group_begin self.now.bytes.now m) × (at ≤ self.now.t.base) }
+        ensures { result ≡ then_some (group_ok self.now.bytes.now self.now.text m) (group_begin self.now.bytes.now (m + 1)) }
+    {
+        if numbers::u32_at(self.bytes, self.t.base + 4 * m) != at {
+            return None;
+        }
+        let mut o = at;
+        for r in 0..self.t.rows {
+            o = self.entry(m, r, o)?;
+        }
+        Some(o)
+    }
+
+    // Where the groups end, if they meet from 0 on and each obeys.
+    fn groups(&self) -> Option<usize>
+        ensures { result ≡ then_some (all_below (suc (n_of self.now.bytes.now)) (group_ok self.now.bytes.now self.now.text)) (group_begin self.now.bytes.now (suc (n_of self.now.bytes.now))) }
+    {
+        let mut at = 0;
+        for m in 0..=self.t.n {
+            at = self.group(m, at)?;
+        }
+        Some(at)
+    }
 }
 
 // Whether the list is well formed, with a text of so many bytes.
@@ -98,5 +108,10 @@ pub fn well_formed(list: &[u8], text: usize) -> bool
         return false;
     }
     let t = trailer_of(list);
-    groups(list, t, text).is_some_and(|end| end == t.base)
+    let cut = CutList {
+        bytes: list,
+        t,
+        text,
+    };
+    cut.groups().is_some_and(|end| end == t.base)
 }
