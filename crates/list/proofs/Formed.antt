@@ -9,12 +9,18 @@ use native.Mathlib.Omega.{arith}
 use lib.Dec.{leb}
 use lib.ListN.{length, get_or}
 use borrow.Author.Tests.{leb-true}
-use Rattle.paper.specs.Cuts.{Opt, Nil}
+use Rattle.paper.specs.Cuts.{Opt, Byte, Stretch, Split, Nil}
 use Rattle.paper.specs.Gate.{n_of, rows_of, group_at, group_begin, option_count, head_end, head_at, option_at, opt_of, opts_of, trailer_ok, well_formed}
 use Rattle.paper.proofs.Tests.{and_left, and_right, every_at, table_length, table_at}
 use Rattle.paper.proofs.Obeys.{Obeys}
 use Rattle.paper.proofs.WellFormed.{Formed, formed, formed_obey}
-use Rattle.list.proofs.OptionLaws.{obeys_more}
+
+-- an option that obeys with fewer rows obeys with more
+pub obeys_more : (text R S m : ℕ) → R ≤ S → (x : Opt) → Obeys text R m x → Obeys text S m x
+obeys_more text R S m h (Byte lo hi) o = o
+obeys_more text R S m h (Stretch off len) o = o
+obeys_more text R S m h (Split k a b) o = (o.0, o.1, omega (arith, o.2), omega (arith, o.3))
+obeys_more text R S m h Nil o = o
 
 module _ (l : List ℕ) (text : ℕ) (f : Formed l text) (m r : ℕ) (h : m ≤ n_of l) (u : r < rows_of l) where
   opt : ℕ → Opt
