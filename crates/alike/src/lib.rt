@@ -12,7 +12,7 @@ ghost use Rattle.walk.specs.Counts.{Small};
 ghost use Rattle.walk.specs.Progress.{Classes};
 ghost use Rattle.alike.specs.Slots.{Letters, Without, Free, PlaceFor, Given};
 
-// A slot for each byte: letters of one slot are alike; slot 0 says nothing.
+// A slot for each byte: letters of one slot are alike; slot 0 says nothing. A number and no option, for the walk's counts stand by it.
 #[derive(Clone, Copy)]
 pub struct Slots {
     pub of: [u8; 256],

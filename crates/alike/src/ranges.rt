@@ -1,4 +1,5 @@
 // Which range rows hold which byte: a table of four words a byte, in which entry b has a bit for each row that holds b.
+// It is flat, as every table whose bits `workspace` sets.
 ghost use Rattle.std.specs.Prelude.{◌≡◌, true, ◌≤◌, ◌<◌, length};
 ghost use Rattle.paper.specs.Trailer.{count_of};
 ghost use Rattle.paper.specs.Rows.{Range, row};

@@ -34,7 +34,6 @@ trait Rule {
     ghost settled: { Self → List ℕ → ℕ → Type 0 };
 
     fn count(&self) -> usize
-        requires { ready self.now }
         ensures { result ≡ rows self.now };
 
     // Row r's turn. Whether something is new.
