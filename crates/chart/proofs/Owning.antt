@@ -27,9 +27,8 @@ use Rattle.groundwork.specs.Ground.{Ground, Splits, some_letter, pairs_at, count
 use Rattle.workspace.specs.Places.{place_of, places_in}
 use Rattle.workspace.proofs.Places.{places_at}
 use Rattle.sheet_contents.specs.Ranges.{holds_byte}
-use Rattle.chart_cells.specs.Steps.{Adds, only, both, paired, parted}
+use Rattle.chart_cells.specs.Steps.{only, both, paired, parted}
 use Rattle.chart.specs.Cells.{holding, ranged, fitting, splitting, among, passing, can_hold, can_hold_all}
-use Rattle.chart_cells.proofs.Adding.{adds_then}
 use Rattle.chart_cells.proofs.Splitting.{any_same}
 use Rattle.chart.proofs.Reaching.{accepted_below, word_row, word_first, word_second}
 
@@ -44,26 +43,9 @@ own_parts g pat acc m i q (Alt a b) = refl
 own_parts g pat acc m i q (Seq a b) = refl
 own_parts g pat acc m i q (Star a) = refl
 
--- ---- a loop over the rows
+-- ---- the rows below n that pass
 
 module _ (g : Grammar) (f : Row → Bool) where
-  pub among_none : (r : ℕ) → among g f 0 r ≡ false
-  unfolding among
-  among_none r = rw (le-ltb r 0 (omega arith))
-
-  among_more : (n r : ℕ) → (among g f n r || only n (f (row g n)) r) ≡ among g f (n + 1) r
-  unfolding among only
-  among_more n r = go (dec_lt r n) (ℕ_discrete r n)
-    where
-      go : Dec (r < n) → Dec (r ≡ n) → ((ltb r n && f (row g r)) || (eqb r n && f (row g n))) ≡ (ltb r (n + 1) && f (row g r))
-      go (yes h) d = rw (lt-ltb r n h, lt-ltb r (n + 1) (omega arith), ne_eqb r n (λ e. omega arith)) (or_false (f (row g r)))
-      go (no h) (yes e) = rw (le-ltb r n (omega arith), lt-ltb r (n + 1) (omega arith), eq-eqb r n e) (ap (λ z. f (row g z)) (sym e))
-      go (no h) (no e) = rw (le-ltb r n (omega arith), le-ltb r (n + 1) (omega arith), ne_eqb r n e)
-
-  -- a turn
-  pub among_turn : (sp n : ℕ) (old now next : List ℕ) → Adds sp (among g f n) old now → (on : Bool) → on ≡ f (row g n) → Adds sp (only n on) now next → Adds sp (among g f (n + 1)) old next
-  among_turn sp n old now next x on e y = adds_then sp (among g f n) (only n on) (among g f (n + 1)) old now next x y (λ r h. ap (λ b. among g f n r || only n b r) e ∙ among_more n r)
-
   -- none of the first n passes
   pub among_no : (n : ℕ) → ((r : ℕ) → r < n → f (row g r) ≡ false) → (r : ℕ) → among g f n r ≡ false
   unfolding among

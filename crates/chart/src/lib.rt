@@ -12,7 +12,15 @@ ghost use Rattle.chart.specs.Cells.{Charting, derivable, emptied, Cell, Filled, 
 use sheet_trailer::Table;
 
 // The span of the m places from i on: what each row does by itself, carried to the rows that reach it.
-fn cell(s: &[u8], rows: Table, places: &[Option<u8>], lay: &[u64], work: &mut [u64], i: usize, m: usize)
+fn cell(
+    s: &[u8],
+    rows: Table,
+    places: &[Option<u8>],
+    lay: &[u64],
+    work: &mut [u64],
+    i: usize,
+    m: usize,
+)
     requires { Charting s.now rows places.now lay.now work.old × (0 < m) × (i + m ≤ length places.now) × Filled (derivable s.now places.now) (length places.now) m i work.old }
     ensures { Cell (derivable s.now places.now) m i work.old work.new }
 {

@@ -14,11 +14,12 @@ ghost use Rattle.chart.specs.Cells.{Charting, allowed, holding, no_range, ranged
 use sheet_contents::Row;
 use sheet_trailer::Table;
 
-// Whether the row is a range that holds the byte x.
-fn holds(r: Row, x: usize) -> bool
-    ensures { result ≡ holds_byte (as_row r) x }
+// Whether row q is a range that holds the byte x.
+fn holds(s: &[u8], rows: Table, q: usize, x: usize) -> bool
+    requires { Good s.now × TableOf s.now 2 rows × (q < rows.count) }
+    ensures { result ≡ holding x (row (grammar_of s.now) q) }
 {
-    match r {
+    match sheet::row_at(s, rows, q) {
         Row::Range(low, high) => low <= x && x <= high,
         Row::Empty | Row::Text(_, _) | Row::Alt(_, _) | Row::Seq(_, _) | Row::Star(_) => false,
     }
@@ -40,10 +41,7 @@ fn ranges(s: &[u8], rows: Table, lay: &[u64], x: usize, work: &mut [u64], sp: us
     if no_range(lay, x) {
         return;
     }
-    for q in 0..rows.count {
-        let on = holds(sheet::row_at(s, rows, q), x);
-        chart_cells::put(work, sp, q, on);
-    }
+    workspace::put_where(work, sp, rows.count, |q| holds(s, rows, q, x));
 }
 
 // The ranges that hold a byte allowed at place i, into its span, where m is 1.
@@ -85,7 +83,9 @@ pub fn can_hold_all(part: &[u8], places: &[Option<u8>], i: usize, lay: &[u64]) -
     requires { (i + length part.now ≤ length places.now) × (pairs_at ≤ length lay.now) }
     ensures { result ≡ can_hold_all lay.now places.now i part.now }
 {
-    part.iter().zip(&places[i..]).all(|(b, x)| can_hold(lay, *x, *b))
+    part.iter()
+        .zip(&places[i..])
+        .all(|(b, x)| can_hold(lay, *x, *b))
 }
 
 // Whether row q is a text of m bytes that fits the places from i on.
@@ -134,8 +134,7 @@ pub fn texts(
         return;
     }
     let text = sheet::text_of(s);
-    for q in 0..rows.count {
-        let on = text_fits(s, rows, q, text, places, i, m, lay);
-        chart_cells::put(work, sp, q, on);
-    }
+    workspace::put_where(work, sp, rows.count, |q| {
+        text_fits(s, rows, q, text, places, i, m, lay)
+    });
 }

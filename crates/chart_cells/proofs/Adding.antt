@@ -6,7 +6,7 @@ use mathlib.Core.Bool.{Bool, true, false, ◌&&◌, ◌||◌, and-false}
 use mathlib.Core.List.{List}
 use native.Mathlib.Omega.{arith}
 use native.Mathlib.Decide.{ℕ_discrete}
-use lib.Dec.{eqb}
+use lib.Dec.{eqb, ltb}
 use lib.ListN.{length}
 use borrow.Author.Tests.{eq-eqb, ne_eqb}
 use Rattle.paper.specs.Answers.{words}
@@ -29,6 +29,8 @@ use Rattle.workspace.proofs.Bits.{
   joined_apart,
   drop_joined,
 }
+use Rattle.workspace.specs.Where.{put_below}
+use Rattle.workspace.proofs.Where.{length_put_below, put_below_bit, put_below_apart, drop_put_below}
 use Rattle.chart_cells.specs.Steps.{Kept, Adds, only}
 
 -- the words of a span lie among those of the workspace
@@ -110,3 +112,14 @@ module _ (ws : List ℕ) (sp : ℕ) (l : sp < 1891) where
     unfolding put_bit
     adds_put room true = adds_set room
     adds_put room false = adds_none sp (only q false) ws (only_off q)
+
+  -- the rows below n that pass a test
+  pub adds_below : (test : ℕ → Bool) (n : ℕ) → 4 * sp + 4 ≤ length ws → n ≤ 256 → Adds sp (λ r. ltb r n && test r) ws (put_below test ws sp n)
+  adds_below test n room few = record {
+    kept = record {
+      long = length_put_below test ws sp n;
+      apart = λ t r ne. put_below_apart test ws sp n few t r ne;
+      rest = drop_put_below test ws sp n few words (in_words sp l);
+    };
+    bits = λ r h. put_below_bit test ws sp n room few r;
+  }

@@ -6,14 +6,6 @@ ghost use Rattle.workspace.specs.Spans.{span_at};
 ghost use Rattle.groundwork.specs.Ground.{count_at};
 ghost use Rattle.chart_cells.specs.Steps.{Adds, Pairs, Chained, only, «both», paired, parted, brought, carried_in};
 
-// Row q into span sp, where the test passed.
-pub fn put(work: &mut [u64], sp: usize, q: usize, on: bool)
-    requires { (sp < 1891) × (q < 256) × (7564 ≤ length work.old) }
-    ensures { Adds sp (only q on) work.old work.new }
-{
-    workspace::put(work, sp, q, on);
-}
-
 // Whether the pair x has its a in one span and its b in the other.
 fn both(work: &[u64], left: usize, right: usize, x: usize) -> bool
     requires { (left < 1891) × (right < 1891) × (x < 16777216) × (7564 ≤ length work.now) }
@@ -27,11 +19,11 @@ fn pairs(lay: &[u64], work: &mut [u64], left: usize, right: usize, sp: usize)
     requires { Pairs lay.now × (left < 1891) × (right < 1891) × (sp < 1891) × (left ≢ sp) × (right ≢ sp) × (7564 ≤ length work.old) }
     ensures { Adds sp (paired lay.now work.old left right (get_or lay.now count_at 0)) work.old work.new }
 {
-    let n = lay[1293] as usize;
-    for pair in &lay[1036..1036 + n] {
+    let n = lay[groundwork::COUNT] as usize;
+    for pair in &lay[groundwork::PAIRS..groundwork::PAIRS + n] {
         let x = *pair as usize;
         let on = both(work, left, right, x);
-        put(work, sp, x % 256, on);
+        workspace::put(work, sp, x % 256, on);
     }
 }
 
@@ -52,7 +44,7 @@ pub fn splits(lay: &[u64], work: &mut [u64], i: usize, m: usize, sp: usize)
     requires { Pairs lay.now × (i + m ≤ 60) × (sp ≡ span_at i m) × (7564 ≤ length work.old) }
     ensures { Adds sp (parted lay.now work.old i m (m - 1)) work.old work.new }
 {
-    if lay[1293] == 0 || m < 2 {
+    if lay[groundwork::COUNT] == 0 || m < 2 {
         return;
     }
     let base = sp - i;

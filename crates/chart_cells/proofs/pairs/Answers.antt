@@ -1,12 +1,12 @@
-use Prim.Native.Nat.{ℕ, ◌+◌, ◌-◌, ◌<◌}
+use Prim.Native.Nat.{ℕ, ◌+◌, ◌-◌, ◌%◌, ◌<◌}
 use mathlib.Core.Path.{◌≡◌, ◌∙◌, subst}
 use mathlib.Core.List.{List}
 use native.Mathlib.Omega.{arith}
 use lib.ListN.{length, get_or, take, drop, length-drop}
 use lib.Seq.{get_or-take, get_or-drop, length-take-le}
 use Rattle.groundwork.specs.Ground.{pairs_at, count_at}
-use Rattle.chart_cells.specs.Steps.{Adds, Pairs, paired}
-use Rattle.chart_cells.proofs.Adding.{adds_none}
+use Rattle.chart_cells.specs.Steps.{Adds, Pairs, only, paired}
+use Rattle.chart_cells.proofs.Adding.{adds_none, adds_put}
 use Rattle.chart_cells.proofs.Splitting.{paired_none, pairs_turn}
 use Rattle.chart_cells.proofs.pairs.Goals as goal
 
@@ -40,7 +40,9 @@ loop-pair-preserved c =
     let a = c.args in
     let l = c.loop-pair in
     let e = listed_at a.lay.now c.requires.0 l.pair-index c.loop-pair-test.true in
-    pairs_turn a.lay.now a.left a.right a.sp l.pair-index a.work.now l.work _ c.requires.4 c.requires.5 l.invariant c.both-on.result (rw e at c.both-on.ensures) (rw e at c.put.ensures)
+    let x = get_or (listed a.lay.now) l.pair-index 0 in
+    let one : Adds a.sp (only (x % 256) c.both-on.result) l.work c.put.new.ws = rw c.put.ensures (adds_put l.work a.sp (omega arith) (x % 256) (omega arith) (omega arith) c.both-on.result) in
+    pairs_turn a.lay.now a.left a.right a.sp l.pair-index a.work.now l.work _ c.requires.4 c.requires.5 l.invariant c.both-on.result (rw e at c.both-on.ensures) (rw e at one)
 
 pub returns : goal.returns
 returns c =

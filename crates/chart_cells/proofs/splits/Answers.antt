@@ -20,10 +20,10 @@ pub returns-then-lay-eq0 : goal.returns-then-lay-eq0
 returns-then-lay-eq0 c =
     let a = c.args in
     elim c.then-lay-eq0.branch [
-      then-lay-eq0-via-then-lay-eq0 w ↦ no_pairs a.lay.now a.i a.m a.sp a.work.now w.if-lay-eq0.true (a.m - 1)
-    | then-lay-eq0-via-else-lay-eq0+then-m-lt2 w ↦
-      let z : a.m - 1 ≡ 0 = omega arith in
-      rw z (adds_none a.sp (parted a.lay.now a.work.now a.i a.m 0) a.work.now (parted_none a.lay.now a.i a.m a.work.now))
+      | then-lay-eq0-via-then-lay-eq0 w ↦ no_pairs a.lay.now a.i a.m a.sp a.work.now w.if-lay-eq0.true (a.m - 1)
+      | then-lay-eq0-via-else-lay-eq0+then-m-lt2 w ↦
+          let z : a.m - 1 ≡ 0 = omega arith in
+          rw z (adds_none a.sp (parted a.lay.now a.work.now a.i a.m 0) a.work.now (parted_none a.lay.now a.i a.m a.work.now))
     ]
 
 pub overflow_sub-base : goal.overflow_sub-base

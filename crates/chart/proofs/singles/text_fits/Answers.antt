@@ -41,9 +41,9 @@ unfolding fitting
 returns-in-Empty c =
     rw (← c.row_at.ensures.same)
     (elim c.in-Empty.is [
-      inl e ↦ rw e
-    | inr (inl (a, b, e)) ↦ rw e
-    | inr (inr (inl (a, b, e))) ↦ rw e
-    | inr (inr (inr (inl (a, b, e)))) ↦ rw e
-    | inr (inr (inr (inr (a, e)))) ↦ rw e
+      | inl e ↦ rw e
+      | inr (inl (a, b, e)) ↦ rw e
+      | inr (inr (inl (a, b, e))) ↦ rw e
+      | inr (inr (inr (inl (a, b, e)))) ↦ rw e
+      | inr (inr (inr (inr (a, e)))) ↦ rw e
     ])
