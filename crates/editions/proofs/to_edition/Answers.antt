@@ -10,14 +10,14 @@ use Rattle.editions.proofs.Answers.{to_known, refuses_sheet, refuses_rule, moves
 use Rattle.editions.proofs.to_edition.Goals.{In_ok-first_fault}
 use Rattle.editions.proofs.to_edition.Goals as goal
 
--- no fault was found
-accepted : (c : In_ok-first_fault) → (refusal (only (from (moving c.args.wanted))) c.args.sheet.now).number ≡ 0
-accepted c = told_ok _ (rw c.requires.0 at c.in_ok-first_fault.ensures)
-
 pub returns-in_err-first_fault : goal.returns-in_err-first_fault
 returns-in_err-first_fault c =
     let p = err_from_is_err_and c.from_residual.result c.from_residual.ensures.1 in
     rw (p.1, p.2) (refuses_sheet (moving c.args.wanted) c.args.sheet.now c.args.out.now _ (rw c.requires.0 at c.in_err-first_fault.ensures))
+
+-- no fault was found
+accepted : (c : In_ok-first_fault) → (refusal (only (from (moving c.args.wanted))) c.args.sheet.now).number ≡ 0
+accepted c = told_ok _ (rw c.requires.0 at c.in_ok-first_fault.ensures)
 
 pub no_rule-requires : goal.no_rule-requires
 no_rule-requires c = (good (only (from (moving c.args.wanted))) _ (omega arith) (accepted c)).trailed
