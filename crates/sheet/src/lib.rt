@@ -30,10 +30,13 @@ pub enum Fault {
     Long,
     Mark,
     Total,
+    // a table's
     Count(u32),
     Lengths,
     Offsets,
+    // a table's record
     Record(u32, u32),
+    // an assertion's
     Term(u32),
     Workspace,
     Output,

@@ -14,7 +14,7 @@ pub const SIZE: [usize; 5] = [2, 1, 6, 6, 12];
 // The least and the greatest count, by table.
 const COUNTS: [(usize, usize); 5] = [(1, 8), (0, 1024), (0, 256), (0, 64), (0, 32)];
 
-// The edition that the mark names.
+// The edition that the mark names: a number, since the trailer's size and the mark are reckoned from it.
 #[tactic(auto, unfolding(paper::specs::Trailer::edition))]
 fn edition(s: &[u8]) -> usize
     requires { 1 ≤ length s.now }
@@ -71,7 +71,7 @@ pub fn longest(s: &[u8]) -> usize
     field(s, 1)
 }
 
-// How many records table t has: 0 letters, 1 text, 2 rows, 3 parts, 4 assertions.
+// How many records table t has: 0 letters, 1 text, 2 rows, 3 parts, 4 assertions. Numbers, since 14 and 16 name a table by its number.
 pub fn count_of(s: &[u8], t: usize) -> usize
     requires { Trailed s.now × (t < 5) }
     ensures { (result ≡ count_of s.now t) × (result < 65536) }
