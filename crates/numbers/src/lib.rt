@@ -12,6 +12,7 @@ pub fn wide(x: u8) -> usize
 }
 
 // The number of two bytes at o.
+#[tactic(auto, unfolding(paper::specs::Bytes::u16_at))]
 pub fn u16_at(s: &[u8], o: usize) -> usize
     requires { o + 2 ≤ length s.now }
     ensures { (result ≡ u16_at s.now o) × (result < 65536) }
@@ -20,6 +21,7 @@ pub fn u16_at(s: &[u8], o: usize) -> usize
 }
 
 // The number of four bytes at o.
+#[tactic(auto, unfolding(paper::specs::Bytes::u16_at, paper::specs::Bytes::u32_at))]
 pub fn u32_at(s: &[u8], o: usize) -> usize
     requires { o + 4 ≤ length s.now }
     ensures { (result ≡ u32_at s.now o) × (result < 4294967296) }
@@ -28,6 +30,7 @@ pub fn u32_at(s: &[u8], o: usize) -> usize
 }
 
 // The four bytes at o are those of the mark.
+#[tactic(auto, using(crate::proofs::Marks::mark_is))]
 pub fn mark_at(s: &[u8], o: usize, mark: &[u8; 4]) -> bool
     requires { o + 4 ≤ length s.now }
     ensures { result ≡ mark_at s.now o (slice_index mark.now 0) (slice_index mark.now 1) (slice_index mark.now 2) (slice_index mark.now 3) }
@@ -36,6 +39,7 @@ pub fn mark_at(s: &[u8], o: usize, mark: &[u8; 4]) -> bool
 }
 
 // A number's two bytes at o. Each writer hands back where it ended.
+#[tactic(auto, using(crate::proofs::Stores::put_same, crate::proofs::Stores::two_bytes))]
 pub fn put_u16(list: &mut [u8], o: usize, x: usize) -> usize
     requires { o + 2 ≤ length list.old }
     ensures { Put (u16 x) o list.old list.new result × (result ≡ o + 2) }
@@ -44,6 +48,7 @@ pub fn put_u16(list: &mut [u8], o: usize, x: usize) -> usize
 }
 
 // A number's four bytes at o.
+#[tactic(auto, using(crate::proofs::Stores::put_same, crate::proofs::Stores::four_bytes))]
 pub fn put_u32(list: &mut [u8], o: usize, x: usize) -> usize
     requires { o + 4 ≤ length list.old }
     ensures { Put (u32 x) o list.old list.new result × (result ≡ o + 4) }
@@ -52,6 +57,7 @@ pub fn put_u32(list: &mut [u8], o: usize, x: usize) -> usize
 }
 
 // The bytes x at o.
+#[tactic(auto, using(crate::proofs::Stores::put_over))]
 pub fn put_bytes(list: &mut [u8], o: usize, x: &[u8]) -> usize
     requires { o + length x.now ≤ length list.old }
     ensures { Put x.now o list.old list.new result }

@@ -28,6 +28,7 @@ pub fn noted(counts: &mut Counts, len: usize, s: usize, t: u64)
 }
 
 // What is known of it. Bytes of slot 0 are not alike.
+#[tactic(auto, unfolding(crate::specs::Counts::seen_at))]
 pub fn seen(counts: &Counts, len: usize, s: usize) -> Option<u64>
     requires { (0 < len) × (len ≤ 60) × (s < 8) }
     ensures { result ≡ seen_at counts.now len s }

@@ -12,6 +12,7 @@ pub struct Letters {
 }
 
 impl Letters {
+    #[tactic(auto, using(workspace::proofs::Bits::no_word), unfolding(crate::specs::Letters::has_letter))]
     pub fn none() -> Self
         ensures { NoLetter result.of }
     {
@@ -28,6 +29,7 @@ impl Letters {
         self
     }
 
+    #[tactic(auto, unfolding(crate::specs::Letters::has_letter))]
     pub fn has(self, b: u8) -> bool
         ensures { result ≡ has_letter self.of b }
     {
@@ -35,6 +37,7 @@ impl Letters {
     }
 
     // The first letter at or after c.
+    #[tactic(auto, using(workspace::proofs::Scan::first_of_one), unfolding(crate::specs::Letters::has_letter))]
     pub fn first_from(self, c: usize) -> Option<u8>
         requires { c ≤ 256 }
         ensures { FirstFrom (has_letter self.of) c result }
@@ -44,6 +47,7 @@ impl Letters {
     }
 }
 
+// A word's first letters, in a buffer as long as the longest word: a trial takes no memory.
 #[derive(Clone, Copy)]
 pub struct Prefix {
     pub bytes: [u8; 60],

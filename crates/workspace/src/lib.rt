@@ -21,6 +21,7 @@ pub fn span(i: usize, m: usize) -> usize
 }
 
 // Whether row r is in span s.
+#[tactic(auto, using(crate::proofs::Bits::test_is))]
 pub fn test(ws: &[u64], s: usize, r: usize) -> bool
     requires { (4 * s + 4 ≤ length ws.now) × (r < 256) }
     ensures { result ≡ bit_at ws.now s r }
@@ -29,6 +30,7 @@ pub fn test(ws: &[u64], s: usize, r: usize) -> bool
 }
 
 // Row r into span s.
+#[tactic(auto, using(crate::proofs::Bits::set_is))]
 pub fn set(ws: &mut [u64], s: usize, r: usize)
     requires { (4 * s + 4 ≤ length ws.old) × (r < 256) }
     ensures { ws.new ≡ set_bit ws.old s r }
@@ -37,6 +39,7 @@ pub fn set(ws: &mut [u64], s: usize, r: usize)
 }
 
 // Row r into span s, where the test passed.
+#[tactic(auto, unfolding(crate::specs::Bits::put_bit))]
 pub fn put(ws: &mut [u64], s: usize, r: usize, on: bool)
     requires { (4 * s + 4 ≤ length ws.old) × (r < 256) }
     ensures { ws.new ≡ put_bit on ws.old s r }
@@ -47,6 +50,7 @@ pub fn put(ws: &mut [u64], s: usize, r: usize, on: bool)
 }
 
 // The rows below n that pass the test, into span s.
+#[tactic(auto, using(crate::proofs::Where::put_where_none, crate::proofs::Where::put_where_more))]
 pub fn put_where<F: Fn(usize) -> bool>(ws: &mut [u64], s: usize, n: usize, test: F)
     requires { (4 * s + 4 ≤ length ws.old) × (n ≤ 256) × ((q : ℕ) → q < n → F.pre test q) }
     ensures { PutWhere (F.post test) s n ws.old ws.new }
@@ -57,6 +61,7 @@ pub fn put_where<F: Fn(usize) -> bool>(ws: &mut [u64], s: usize, n: usize, test:
 }
 
 // Whether span s has no row.
+#[tactic(auto, using(crate::proofs::Words::none_words), unfolding(crate::specs::Bits::none_at))]
 pub fn none(ws: &[u64], s: usize) -> bool
     requires { 4 * s + 4 ≤ length ws.now }
     ensures { result ≡ none_at ws.now s }
@@ -94,6 +99,7 @@ fn four(ws: &[u64], s: usize) -> [u64; 4]
 }
 
 // These words into span s, one by one: LLVM makes two stores of them, and of `copy_from_slice` half as fast a copy.
+#[tactic(auto, unfolding(crate::specs::Bits::four_at))]
 fn put_four(ws: &mut [u64], s: usize, x: [u64; 4])
     requires { 4 * s + 4 ≤ length ws.old }
     ensures { ws.new ≡ four_at ws.old s (slice_index x 0) (slice_index x 1) (slice_index x 2) (slice_index x 3) }
@@ -113,6 +119,7 @@ fn either(x: [u64; 4], y: [u64; 4]) -> [u64; 4]
 }
 
 // No row left in span s.
+#[tactic(auto, unfolding(crate::specs::Bits::wiped))]
 pub fn wipe(ws: &mut [u64], s: usize)
     requires { 4 * s + 4 ≤ length ws.old }
     ensures { ws.new ≡ wiped ws.old s }
@@ -121,6 +128,7 @@ pub fn wipe(ws: &mut [u64], s: usize)
 }
 
 // The rows of entry q of another table, and no other, into span s.
+#[tactic(auto, unfolding(crate::specs::Bits::copied))]
 pub fn copy(ws: &mut [u64], s: usize, from: &[u64], q: usize)
     requires { (4 * s + 4 ≤ length ws.old) × (4 * q + 4 ≤ length from.now) }
     ensures { ws.new ≡ copied ws.old s from.now q }
@@ -129,6 +137,7 @@ pub fn copy(ws: &mut [u64], s: usize, from: &[u64], q: usize)
 }
 
 // The rows of entry q of another table, besides those that are there, into span s.
+#[tactic(auto, unfolding(crate::specs::Bits::joined))]
 pub fn join(ws: &mut [u64], s: usize, from: &[u64], q: usize)
     requires { (4 * s + 4 ≤ length ws.old) × (4 * q + 4 ≤ length from.now) }
     ensures { ws.new ≡ joined ws.old s from.now q }

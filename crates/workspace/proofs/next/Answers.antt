@@ -3,9 +3,6 @@ use borrow.Author.Count.{below_more}
 use Rattle.workspace.proofs.Scan.{here, not_here, passed}
 use Rattle.workspace.proofs.next.Goals as goal
 
-pub loop-q-init : goal.loop-q-init
-loop-q-init c = (omega arith, λ k u l. absurd (omega arith))
-
 pub returns-then-x-eq1 : goal.returns-then-x-eq1
 returns-then-x-eq1 c =
     let l = c.loop-q in
@@ -21,6 +18,3 @@ pub loop-q-preserved : goal.loop-q-preserved
 loop-q-preserved c =
     let l = c.loop-q in
     (omega arith, below_more _ _ l.invariant.1 (λ h. not_here _ _ _ l.q (omega arith) c.if-x-eq1.false))
-
-pub returns : goal.returns
-returns c = record { low = omega arith; high = omega arith; hit = λ h. absurd (omega arith); gap = λ k u l. c.loop-q.invariant.1 k (omega arith) l }
