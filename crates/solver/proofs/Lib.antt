@@ -1,2 +1,3 @@
 pub mod Coincide
 pub mod Solving
+pub mod Short

@@ -21,31 +21,13 @@ use Rattle.workspace.proofs.Spans.{lt_or_le}
 use Rattle.sheet.proofs.Good.{good}
 use Rattle.sheet.proofs.Soundness.{good_sound}
 use Rattle.editions.proofs.Answers.{movable, moved_most}
-use Rattle.solver.proofs.Solving.{says_sheet}
+use Rattle.solver.proofs.Short.{word_most}
 use Rattle.maker.proofs.Answers.{refused_sheet, refused_row, refused_length}
 
 -- ---- the word found
 
-longest_is : (s : List ℕ) → longest s ≡ (sheet_of s).longest
-unfolding sheet_of
-longest_is s = refl
-
--- a key that satisfies is no longer than the longest length
-word_short : (s : List ℕ) (budget : ℕ) (x : Said) → Means (sheet_of s) budget x → (report_of x).length ≤ longest s
-word_short s budget (Found w t) m = omega (arith, m.0.most, longest_is s)
-word_short s budget (None t) m = omega arith
-word_short s budget (Spent t) m = omega arith
-word_short s budget (Refused n) m = absurd m
-
 pub word_fits : (s : List ℕ) (budget : ℕ) (work out : List ℕ) → (report_of (says s budget work out)).length < 4294967296
-unfolding solver_says
-word_fits s budget work out =
-    lt_or_le 0 (refusal latest s).number (λ h. rw (says_sheet s budget work out (λ z. omega arith)) (omega arith))
-    (λ h. either (eqb (solver_refusal s (length work) (length out)).number 0) (omega (arith, h)))
-  where
-    either : (b : Bool) → (refusal latest s).number ≡ 0 → (report_of (whether b (under budget (walk_of (sheet_of s))) (Refused (solver_refusal s (length work) (length out))))).length < 4294967296
-    either true e = omega (arith, word_short s budget (under budget (walk_of (sheet_of s))) (answer_means (sheet_of s) budget), (good latest s (omega arith) e).short)
-    either false e = omega arith
+word_fits s budget work out = omega (arith, word_most s budget work out)
 
 -- ---- the list written
 

@@ -1,6 +1,9 @@
-use Rattle.std.proofs.Common.{◌≤◌, length}
+use Rattle.std.proofs.Common.{◌-◌, ◌≤◌, length}
 use Rattle.strovimel.proofs.read_full.Given as goal
 
 -- what was read is inside the room
-abbrev pub invariant-loop : goal.invariant-loop
-invariant-loop g l = l.n ≤ length l.room
+abbrev pub invariant-loop-n : goal.invariant-loop-n
+invariant-loop-n g l = l.n ≤ length l.room
+
+abbrev pub decreases-loop-n : goal.decreases-loop-n
+decreases-loop-n g l = length l.room - l.n
