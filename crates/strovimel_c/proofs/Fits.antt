@@ -8,14 +8,13 @@ use native.Mathlib.Omega.{arith}
 use borrow.Author.Tests.{ne_eqb, eqb-true}
 use lib.Dec.{eqb}
 use lib.ListN.{length}
-use Rattle.paper.specs.Trailer.{longest, count_of}
+use Rattle.paper.specs.Trailer.{count_of}
 use Rattle.paper.specs.Refusals.{Fault, plain, latest, refusal}
-use Rattle.paper.specs.Sheet.{sheet_of, grammar_of}
+use Rattle.paper.specs.Sheet.{grammar_of}
 use Rattle.paper.specs.Cuts.{cut_list}
-use Rattle.paper.specs.Answers.{Said, Found, None, Spent, Refused, report_of, whether, under, walk_of, solver_refusal, solver_says, maker_refusal, maker_says}
+use Rattle.paper.specs.Answers.{report_of, maker_refusal, maker_says}
 use Rattle.paper.specs.Editions.{Move, to, in_edition, move_refusal, move_says}
 use Rattle.paper.specs.Promises.{says}
-use Rattle.paper.proofs.Meaning.{Means, answer_means}
 use Rattle.paper.proofs.Obeys.{list_most}
 use Rattle.workspace.proofs.Spans.{lt_or_le}
 use Rattle.sheet.proofs.Good.{good}
