@@ -5,12 +5,6 @@ ghost use Rattle.std.specs.Prelude.{◌≡◌, ◌+◌, ◌≤◌, ◌<◌, leng
 ghost use Rattle.paper.specs.Bytes.{u16_at, u32_at, mark_at, u16, u32};
 ghost use Rattle.numbers.specs.Put.{Put};
 
-pub fn wide(x: u8) -> usize
-    ensures { (result ≡ x) × (result < 256) }
-{
-    x as usize
-}
-
 // The number of two bytes at o.
 #[tactic(auto, unfolding(paper::specs::Bytes::u16_at))]
 pub fn u16_at(s: &[u8], o: usize) -> usize
