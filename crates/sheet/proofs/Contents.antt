@@ -119,6 +119,3 @@ module _ (s : List ℕ) where
 
   pub grammar_few : Good s → length (sheet_of s).grammar.rows ≤ 256
   grammar_few g = rw grammar_is (omega (arith, rows_length s, (g.counts 2 (omega arith)).1))
-
-  pub text_few : Good s → (text : List ℕ) → text ≡ text_of s → length text ≤ 1024
-  text_few g text e = omega (arith, ap length e, text_length s g, (g.counts 1 (omega arith)).1)

@@ -1,7 +1,7 @@
 -- What is told of a fault, and what a call that writes reports, is what the paper says: every number that a call says is one that the code knows.
 -- Assumes nothing.
 use Prim.Native.Nat.{ℕ}
-use mathlib.Core.Path.{◌≡◌, refl, sym, ap, ◌∙◌}
+use mathlib.Core.Path.{◌≡◌, refl, sym, ap}
 use mathlib.Core.Bool.{Bool, true, false}
 use mathlib.Core.Logic.{◌⊎◌, inl, inr}
 use mathlib.Core.List.{List}
@@ -126,10 +126,7 @@ module _ (x : paper.Fault) where
   unfolding told
   told_fault e = let q = ne_eqb x.number 0 (told_err e) in let h = rw q at e in cc
 
-  -- and the paper's
-  pub told_known : {f : Fault} → Known x → Err f ≡ told x → worded f ≡ x
-  told_known k e = ap told_worded e ∙ k
-
+  -- and means the paper's fault
   pub fault_known : Known x → (x.number ≡ 0 → ⊥) → worded (fault_of x) ≡ x
   unfolding told
   fault_known k n = let q = ne_eqb x.number 0 n in rw q at k

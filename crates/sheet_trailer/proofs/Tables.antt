@@ -6,7 +6,6 @@ use mathlib.Core.List.{List}
 use mathlib.Core.Bool.{true}
 use lib.Dec.{lit≤, eqb}
 use borrow.Author.Tests.{eqb-true}
-use native.Mathlib.Numerals.{add-one}
 use native.Mathlib.Omega.{arith}
 use native.Mathlib.Nat.{mul-suc, mul-le-mul, mul-le-mul_left, zero-add, suc-add, le_refl, le_trans}
 use Rattle.paper.specs.Tests.{first_bad}
@@ -15,12 +14,9 @@ use Rattle.paper.proofs.Tests.{and_left, and_right}
 use Rattle.sheet_trailer.specs.Placed.{Placed}
 use Rattle.sheet_trailer.proofs.Search.{all_good}
 
--- a record lies in its table, and one more record
+-- a record lies in its table
 pub room : (k at n i len : ℕ) → i < n → at + k * n ≤ len → at + k * i + k ≤ len
 room k at n i len h l = omega (arith, mul-suc k i, mul-le-mul_left k h)
-
-pub next : (k i : ℕ) → k * (i + 1) ≡ k * i + k
-next k i = rw add-one (mul-suc k i)
 
 size_most : (t : ℕ) → size t ≤ 12
 size_most zero = lit≤ tt
