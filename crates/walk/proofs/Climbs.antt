@@ -6,7 +6,6 @@ use native.Mathlib.Numerals.{add-one}
 use mathlib.Core.Bool.{Bool}
 use mathlib.Core.List.{List}
 use lib.ListN.{length, get_or, set}
-use lib.Seq.{get_or-set_same}
 use Rattle.std.specs.Prelude.{Some, None}
 use Rattle.walk_state.specs.declared.State.{State}
 use Rattle.walk_state.specs.Letters.{FirstFrom}
@@ -69,14 +68,7 @@ module _ (is : ℕ → Bool) (slot : List ℕ) (opens : ℕ → List ℕ → Boo
       let g = rw (z, add-one) at f in
       rw z (back_step is opens n k w s t d.0 g, knows_back is slot opens n k w m d.1)
 
-  landing_zero : (n k : ℕ) (w s : List ℕ) (m : Counts) (t : ℕ) → k ≡ 0 → Done is opens n k w s t → Landing is slot opens n k w s m t
-  landing_zero n zero w s m t e d = d
-  landing_zero n (suc k) w s m t e d = absurd (omega arith)
-
 module _ (is : ℕ → Bool) (slot : List ℕ) (budget : ℕ) (p : State) (m₀ : Counts) where
-  pub climb_start : Frame budget p p → Small slot → Climbing is slot budget p m₀ p m₀
-  climb_start f s = record { shorter = omega arith; frame = f; small = s; to = λ opens n c d. d }
-
   -- the count of the child that is done
   pub climb_note : (q : State) (m : Counts) → Climbing is slot budget p m₀ q m → 0 < q.prefix.len → last_of q.prefix < 256
       → Climbing is slot budget p m₀ q (noted_at m q.prefix.len (get_or slot (last_of q.prefix) 0) (since_of q))
@@ -145,20 +137,6 @@ module _ (is : ℕ → Bool) (slot : List ℕ) (budget : ℕ) (p : State) (m₀ 
           to = λ opens n c d. back_at is slot opens n q.prefix.len q.prefix.bytes q.begun m q.trials (i.to opens n c d) pos f;
         }
 
-  -- the length is done
-  pub climb_end : (q : State) (m : Counts) → Climbing is slot budget p m₀ q m → q.prefix.len ≡ 0 → Climbed is slot budget p m₀ (Some q) m
-  climb_end q m i e = record {
-    shorter = i.shorter;
-    frame = i.frame;
-    to = λ opens n c d. landing_zero is slot opens n q.prefix.len q.prefix.bytes q.begun m q.trials e (i.to opens n c d).0;
-  }
-
 -- ---- the measure of the climb: the places left, and the letters left in the last of them
 abbrev pub to_go : State → ℕ
 to_go q = 257 * q.prefix.len + (256 - get_or q.prefix.bytes (q.prefix.len - 1) 0)
-
-pub skip_less : (q : State) (b t : ℕ) → 0 < q.prefix.len → q.prefix.len ≤ 60 → length q.prefix.bytes ≡ 60 → last_of q.prefix < b → b < 256 → to_go (counted_of (next_of q b) t) < to_go q
-skip_less q b t p h l m y = rw (get_or-set_same q.prefix.bytes (q.prefix.len - 1) b 0 (omega arith)) (omega arith)
-
-pub back_less : (q : State) → 0 < q.prefix.len → to_go (back_of q) < to_go q
-back_less q p = omega arith

@@ -13,7 +13,6 @@ use lib.Seq.{get_or-set_same, get_or-set_other, set_out, drop_at, drop-set-lt}
 use lib.Pow.{shl_exact}
 use lib.Bits.{bit_or, bit_and, and_mask}
 use lib.Dec.{eqb, ltb, lit<}
-use borrow.Author.Fill.{fill_none, fill_more}
 use borrow.Author.Tests.{eqb-true, lt-ltb, le-ltb}
 use Rattle.paper.specs.Answers.{zeroed}
 use Rattle.workspace.specs.Bits.{bit, bit_at, set_bit, four_at, word_at, wiped, copied, joined, none_at}
@@ -179,10 +178,6 @@ module _ (ws : List ℕ) (s : ℕ) (from : List ℕ) (q : ℕ) where
 -- ---- the first n words are zeroed
 
 module _ (n : ℕ) (ws : List ℕ) where
-  pub zeroed_more : n < length ws → set (zeroed n ws) n 0 ≡ zeroed (n + 1) ws
-  unfolding zeroed
-  zeroed_more h = fill_more n 0 ws h
-
   pub length_zeroed : n ≤ length ws → length (zeroed n ws) ≡ length ws
   unfolding zeroed
   length_zeroed h = simp (length-append, length-replicate, length-drop) (omega arith)
@@ -202,7 +197,3 @@ module _ (n : ℕ) (ws : List ℕ) where
   pub zeroed_same : (x : List ℕ) → drop n x ≡ drop n ws → zeroed n x ≡ zeroed n ws
   unfolding zeroed
   zeroed_same x e = ap (λ l. replicate n 0 ++ l) e
-
-pub zeroed_none : (ws : List ℕ) → ws ≡ zeroed 0 ws
-unfolding zeroed
-zeroed_none ws = fill_none ws 0

@@ -2,7 +2,7 @@
 -- Assumes nothing.
 use Prim.Native.Nat.{ℕ, zero, suc, ◌+◌, ◌*◌, ◌/◌, ◌%◌, ◌^◌, ◌≤◌, ◌<◌}
 use mathlib.Core.Path.{◌≡◌, refl, sym, ap, ◌∙◌}
-use mathlib.Core.Bool.{Bool, true, false, ◌&&◌}
+use mathlib.Core.Bool.{true, false, ◌&&◌, and_self}
 use mathlib.Core.List.{List}
 use Rattle.std.specs.Prelude.{Option, Some, None}
 use native.Mathlib.Omega.{arith}
@@ -61,14 +61,10 @@ module _ (ws : List ℕ) (a b : ℕ) where
 
 -- ---- one set alone
 
-and_same : (x : Bool) → (x && x) ≡ x
-and_same true = refl
-and_same false = refl
-
 module _ (ws : List ℕ) (a : ℕ) where
   one_is : (k : ℕ) → in_both ws a a k ≡ bit_at ws a k
   unfolding in_both
-  one_is k = and_same (bit_at ws a k)
+  one_is k = and_self (bit_at ws a k)
 
   first_one : (p n q : ℕ) → First (in_both ws a a) p n q → First (bit_at ws a) p n q
   first_one p n q f = record {

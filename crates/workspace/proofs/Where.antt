@@ -2,7 +2,7 @@
 -- Assumes nothing.
 use mathlib.Core.Path.{◌≡◌, refl, sym, ap, ◌∙◌}
 use mathlib.Core.Logic.{◌≢◌}
-use mathlib.Core.Bool.{Bool, true, false, ◌&&◌, ◌||◌}
+use mathlib.Core.Bool.{Bool, true, false, ◌&&◌, ◌||◌, or-true, or-false}
 use mathlib.Core.List.{List}
 use Prim.Native.Nat.{ℕ, zero, suc, ◌+◌, ◌*◌, ◌/◌, ◌%◌, ◌^◌, ◌≤◌, ◌<◌}
 use native.Mathlib.Numerals.{add-one}
@@ -19,14 +19,6 @@ use Rattle.workspace.specs.Bits.{bit_at, set_bit, put_bit}
 use Rattle.workspace.specs.Where.{put_below, PutWhere}
 use Rattle.workspace.proofs.Bits.{length_set_bit, set_bit_same, set_bit_other, set_bit_apart, drop_set_bit}
 
-or_false : (x : Bool) → (x || false) ≡ x
-or_false true = refl
-or_false false = refl
-
-or_true : (x : Bool) → (x || true) ≡ true
-or_true true = refl
-or_true false = refl
-
 -- ---- one row
 
 module _ (ws : List ℕ) (s r : ℕ) where
@@ -37,8 +29,8 @@ module _ (ws : List ℕ) (s r : ℕ) where
 
   put_same : (on : Bool) → 4 * s + 4 ≤ length ws → r < 256 → bit_at (put_bit on ws s r) s r ≡ (bit_at ws s r || on)
   unfolding put_bit
-  put_same true room h = set_bit_same ws s r room h ∙ sym (or_true _)
-  put_same false room h = sym (or_false _)
+  put_same true room h = set_bit_same ws s r room h ∙ sym (or-true _)
+  put_same false room h = sym (or-false _)
 
   put_other : (on : Bool) (q : ℕ) → q ≢ r → bit_at (put_bit on ws s r) s q ≡ bit_at ws s q
   unfolding put_bit
@@ -71,7 +63,7 @@ module _ (passes : ℕ → Bool) (ws : List ℕ) (s : ℕ) where
   -- the span has the rows that pass besides its own
   pub put_below_bit : (n : ℕ) → 4 * s + 4 ≤ length ws → n ≤ 256 → (r : ℕ) → bit_at (put_below passes ws s n) s r ≡ (bit_at ws s r || (ltb r n && passes r))
   unfolding put_below
-  put_below_bit zero room few r = rw (le-ltb r 0 (omega arith)) (sym (or_false _))
+  put_below_bit zero room few r = rw (le-ltb r 0 (omega arith)) (sym (or-false _))
   put_below_bit (suc n) room few r = go (ℕ_discrete r n) (put_below_bit n room (omega arith))
     where
       l : List ℕ
@@ -80,7 +72,7 @@ module _ (passes : ℕ → Bool) (ws : List ℕ) (s : ℕ) where
       go : Dec (r ≡ n) → ((q : ℕ) → bit_at l s q ≡ (bit_at ws s q || (ltb q n && passes q)))
           → bit_at (put_bit (passes n) l s n) s r ≡ (bit_at ws s r || (ltb r (suc n) && passes r))
       go (yes e) before =
-          let at : bit_at l s n ≡ bit_at ws s n = before n ∙ rw (le-ltb n n (omega arith)) (or_false (bit_at ws s n)) in
+          let at : bit_at l s n ≡ bit_at ws s n = before n ∙ rw (le-ltb n n (omega arith)) (or-false (bit_at ws s n)) in
           rw (e, lt-ltb n (suc n) (omega arith)) (put_same l s n (passes n) (rw (length_put_below n) room) (omega arith) ∙ ap (λ x. x || passes n) at)
       go (no ne) before = put_other l s n (passes n) r ne ∙ before r ∙ ap (λ x. bit_at ws s r || (x && passes r)) (below (dec_lt r n))
         where
