@@ -66,7 +66,8 @@ pub fn none(ws: &[u64], s: usize) -> bool
     requires { 4 * s + 4 ≤ length ws.now }
     ensures { result ≡ none_at ws.now s }
 {
-    four(ws, s) == [0; 4]
+    let i = 4 * s;
+    ws[i] | ws[i + 1] | ws[i + 2] | ws[i + 3] == 0
 }
 
 // The first row from p on and below n that the sets at entries a and b both have. Words that have none left are passed over whole.
