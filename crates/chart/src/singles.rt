@@ -4,8 +4,6 @@ ghost use Rattle.paper.specs.Rows.{row};
 ghost use Rattle.paper.specs.Sheet.{sheet_of, grammar_of, text_of};
 ghost use Rattle.workspace.specs.Bits.{bit};
 ghost use Rattle.sheet_trailer.specs.Tables.{TableOf};
-ghost use Rattle.sheet_contents.specs.Read.{as_row};
-ghost use Rattle.sheet_contents.specs.Ranges.{holds_byte};
 ghost use Rattle.sheet.specs.Good.{Good};
 ghost use Rattle.groundwork.specs.Ground.{Ground, size, pairs_at, lengths_at};
 ghost use Rattle.chart_cells.specs.Steps.{Adds};

@@ -4,7 +4,7 @@
 ghost use Rattle.std.specs.Prelude.{◌≡◌, ◌≢◌, ◌+◌, ◌-◌, ◌*◌, ◌≤◌, ◌<◌, length, get_or};
 ghost use Rattle.workspace.specs.Spans.{span_at};
 ghost use Rattle.groundwork.specs.Ground.{count_at};
-ghost use Rattle.chart_cells.specs.Steps.{Adds, Pairs, Chained, only, «both», paired, parted, brought, carried_in};
+ghost use Rattle.chart_cells.specs.Steps.{Adds, Pairs, Chained, «both», paired, parted, brought, carried_in};
 
 // Whether the pair x has its a in one span and its b in the other.
 fn both(work: &[u64], left: usize, right: usize, x: usize) -> bool

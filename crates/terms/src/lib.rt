@@ -18,7 +18,7 @@ ghost use Rattle.terms.specs.Shown.{shown, Sized, blank, known_places, pasted_of
 use sheet_contents::{Part, Run};
 use sheet_trailer::Table;
 
-// Up to 60 places, each a byte that is known or none.
+// Up to 60 places, each a byte that is known or none. Memory is fixed, without a heap: so an array, and how many of it are there.
 #[derive(Clone, Copy)]
 pub struct Places {
     pub of: [Option<u8>; 60],
@@ -88,9 +88,10 @@ pub fn all_of_v(prefix: &[u8], n: usize) -> Places
     requires { (length prefix.now ≤ n) × (n ≤ 60) }
     ensures { (shown result ≡ places_of n prefix.now) × Sized result × (result.len ≡ n) }
 {
-    let mut v = known(prefix);
-    v.len = n;
-    v
+    Places {
+        len: n,
+        ..known(prefix)
+    }
 }
 
 // A constant's stretch of the text.
