@@ -1,17 +1,9 @@
 use Prim.Native.Nat.{◌+◌}
 use native.Mathlib.Omega.{arith}
 use Rattle.chart.specs.Cells.{emptied}
-use Rattle.chart.proofs.Filling.{filled_none, filled_more, filled_level, within_none, within_then, cell_within}
+use Rattle.chart.proofs.Filling.{filled_more, filled_level, within_then, cell_within}
 use Rattle.chart.proofs.Charting.{empty_cell}
 use Rattle.chart.proofs.empties.Goals as goal
-
-pub loop-i-init : goal.loop-i-init
-loop-i-init c =
-    let a = c.args in
-    (filled_none (emptied a.lay.now) a.n a.work.now, within_none a.work.now)
-
-pub copy-requires : goal.copy-requires
-copy-requires c = (omega arith, omega arith)
 
 pub loop-i-preserved : goal.loop-i-preserved
 loop-i-preserved c =

@@ -1,16 +1,7 @@
 use Prim.Native.Nat.{◌+◌}
-use Rattle.chart.proofs.Filling.{filled_more, filled_level, within_none, within_then, cell_within}
-use Rattle.chart.proofs.Charting.{still}
+use Rattle.chart.proofs.Filling.{filled_more, filled_level, within_then, cell_within}
 use native.Mathlib.Omega.{arith}
 use Rattle.chart.proofs.level.Goals as goal
-
-pub loop-i-init : goal.loop-i-init
-loop-i-init c = (c.requires.3, within_none _)
-
-pub cell-requires : goal.cell-requires
-cell-requires c =
-    let l = c.loop-i in
-    (still c.requires.0 l.invariant.1.long, c.requires.1, omega arith, l.invariant.0)
 
 pub loop-i-preserved : goal.loop-i-preserved
 loop-i-preserved c =

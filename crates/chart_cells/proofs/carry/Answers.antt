@@ -1,20 +1,12 @@
 use mathlib.Core.Path.{sym, ◌∙◌}
 use native.Mathlib.Omega.{arith}
-use Rattle.chart_cells.proofs.Carrying.{carry_start, carry_turn, carry_done, carry_none}
+use Rattle.chart_cells.proofs.Carrying.{carry_turn, carry_done, carry_none}
 use Rattle.chart_cells.proofs.carry.Goals as goal
 
 pub returns-then-none : goal.returns-then-none
 returns-then-none c =
     let a = c.args in
     carry_none a.lay.now a.sp a.rows a.work.now (sym c.none.ensures ∙ c.if-none.true)
-
-pub loop-q-init : goal.loop-q-init
-loop-q-init c =
-    let a = c.args in
-    carry_start a.lay.now a.sp a.rows a.work.now
-
-pub bring-requires : goal.bring-requires
-bring-requires c = (omega arith, omega arith, omega arith, omega arith)
 
 pub loop-q-preserved : goal.loop-q-preserved
 loop-q-preserved c =

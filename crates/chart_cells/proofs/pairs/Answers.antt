@@ -1,5 +1,5 @@
 use Prim.Native.Nat.{ℕ, ◌+◌, ◌-◌, ◌%◌, ◌<◌}
-use mathlib.Core.Path.{◌≡◌, ◌∙◌, subst}
+use mathlib.Core.Path.{◌≡◌, ◌∙◌}
 use mathlib.Core.List.{List}
 use native.Mathlib.Omega.{arith}
 use lib.ListN.{length, get_or, take, drop, length-drop}
@@ -43,9 +43,3 @@ loop-pair-preserved c =
     let x = get_or (listed a.lay.now) l.pair-index 0 in
     let one : Adds a.sp (only (x % 256) c.both-on.result) l.work c.put.new.ws = rw c.put.ensures (adds_put l.work a.sp (omega arith) (x % 256) (omega arith) (omega arith) c.both-on.result) in
     pairs_turn a.lay.now a.left a.right a.sp l.pair-index a.work.now l.work _ c.requires.4 c.requires.5 l.invariant c.both-on.result (rw e at c.both-on.ensures) (rw e at one)
-
-pub returns : goal.returns
-returns c =
-    let a = c.args in
-    let l = c.loop-pair in
-    subst (λ n. Adds a.sp (paired a.lay.now a.work.now a.left a.right n) a.work.now l.work) (omega (arith, listed_count a.lay.now c.requires.0)) l.invariant

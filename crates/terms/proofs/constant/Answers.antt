@@ -1,5 +1,5 @@
-use Prim.Native.Nat.{◌+◌, ◌-◌, ◌≤◌}
-use mathlib.Core.Path.{◌≡◌, ap}
+use Prim.Native.Nat.{◌+◌, ◌≤◌}
+use mathlib.Core.Path.{ap}
 use lib.ListN.{length}
 use native.Mathlib.Omega.{arith}
 use borrow.Author.Rules.{rules}
@@ -10,9 +10,3 @@ pub slice_bounds-known-end : goal.slice_bounds-known-end
 slice_bounds-known-end c =
     let h : c.args.a + c.args.b ≤ length c.text_of-t.result.now = omega (arith, ap length c.text_of-t.ensures, text_length _ c.requires.0, c.requires.2) in
     search rules
-
-pub returns : goal.returns
-returns c =
-    let s = c.args in
-    let z : s.a + s.b - s.a ≡ s.b = omega arith in
-    rw (z, c.text_of-t.ensures) at c.known.ensures

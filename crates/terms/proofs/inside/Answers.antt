@@ -1,7 +1,6 @@
 use Prim.Native.Nat.{◌+◌}
 use mathlib.Core.Path.{◌≡◌, sym, ap, ◌∙◌}
 use mathlib.Core.Bool.{not}
-use borrow.Author.Count.{below_more}
 use lib.ListN.{get_or}
 use Rattle.paper.specs.Terms.{All, cut_inside}
 use Rattle.paper.specs.Sheet.{sheet_of}
@@ -15,17 +14,8 @@ use Rattle.terms.proofs.inside.Goals as goal
 tested : (c : After-past) → cut_inside (sheet_of c.args.s.now).rules c.args.n (get_or (sheet_of c.args.s.now).parts (c.args.r.first + c.loop-i.i) All) ≡ not c.past.result
 tested c = ap (cut_inside _ _) (sym (c.part_at.ensures.same All)) ∙ c.past.ensures
 
-pub loop-i-init : goal.loop-i-init
-loop-i-init c = λ j l. absurd (omega arith)
-
-pub past-requires : goal.past-requires
-past-requires c = (c.requires.0, c.part_at.ensures.small)
-
 pub returns-then-past : goal.returns-then-past
 returns-then-past c = one_past _ (as_run c.args.r) (omega (arith, c.requires.1.counts, c.requires.2)) _ _ c.loop-i-test.true (tested (goal.at.returns-then-past c).After-past ∙ ap not c.if-past.true)
-
-pub loop-i-preserved : goal.loop-i-preserved
-loop-i-preserved c = below_more _ _ c.loop-i.invariant (tested (goal.at.loop-i-preserved c).After-past ∙ ap not c.if-past.false)
 
 pub returns : goal.returns
 returns c = sym (inside_all _ (as_run c.args.r) (omega (arith, c.requires.1.counts, c.requires.2)) _ (λ j l. c.loop-i.invariant j (omega (arith, c.loop-i-test.false))))

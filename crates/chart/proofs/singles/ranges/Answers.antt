@@ -12,9 +12,6 @@ use Rattle.chart.specs.Cells.{holding, among}
 use Rattle.chart.proofs.Rows.{no_holding}
 use Rattle.chart.proofs.singles.ranges.Goals as goal
 
-pub no_range-requires : goal.no_range-requires
-no_range-requires c = (omega (arith, c.requires.2.long), c.requires.3)
-
 pub returns-then-no_range : goal.returns-then-no_range
 returns-then-no_range c =
     let p = c.requires in

@@ -5,7 +5,7 @@ use lib.ListN.{length}
 use borrow.Author.Tests.{eq-eqb, ne_eqb}
 use Rattle.sheet.proofs.Contents.{text_length}
 use Rattle.chart.specs.Cells.{fitting}
-use Rattle.chart.proofs.Rows.{part_size, part_fits}
+use Rattle.chart.proofs.Rows.{part_fits}
 use native.Mathlib.Omega.{arith}
 use Rattle.chart.proofs.singles.text_fits.Goals.{In-Text}
 use Rattle.chart.proofs.singles.text_fits.Goals as goal
@@ -18,12 +18,6 @@ inside c =
 
 pub slice_bounds-can_hold_all-end : goal.slice_bounds-can_hold_all-end
 slice_bounds-can_hold_all-end c = inside (goal.at.slice_bounds-can_hold_all-end c).In-Text
-
-pub can_hold_all-requires : goal.can_hold_all-requires
-can_hold_all-requires c =
-    let p = c.requires in
-    let size = part_size c.args.text.now c.in-Text.a c.in-Text.len (inside (goal.at.can_hold_all-requires c).In-Text) in
-    (omega (arith, size), omega (arith, p.5.long))
 
 pub returns-then-len-m : goal.returns-then-len-m
 unfolding fitting

@@ -12,19 +12,11 @@ use Rattle.chart.specs.Cells.{allowed, fitting, among}
 use Rattle.chart.proofs.Rows.{texts_passed, texts_none}
 use Rattle.chart.proofs.singles.texts.Goals as goal
 
-pub has_length-requires : goal.has_length-requires
-has_length-requires c =
-    let p = c.requires in
-    (omega (arith, p.1, p.0.short), p.0.lent.ground.long)
-
 pub returns-then-not-has_length : goal.returns-then-not-has_length
 returns-then-not-has_length c =
     let p = c.requires in
     let none = sym c.has_length.ensures ∙ c.if-not-has_length.true in
     adds_none _ _ _ (texts_none _ _ c.args.places.now p.0.lent.ground _ _ _ (omega (arith, p.1, p.0.short)) none)
-
-pub text_of-text-requires : goal.text_of-text-requires
-text_of-text-requires c = c.requires.0.lent.good
 
 pub put_where-requires : goal.put_where-requires
 put_where-requires c =
