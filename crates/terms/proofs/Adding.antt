@@ -5,11 +5,12 @@ use mathlib.Core.List.{List, ◌++◌}
 use native.Mathlib.Omega.{arith}
 use lib.ListN.{length, take, drop}
 use Rattle.std.specs.Prelude.{Option}
+use Rattle.std.proofs.lemmas.List.{length-take}
 use Rattle.paper.specs.Terms.{Place, Known, Part, Const, All, Cut, piece, full_length}
 use Rattle.workspace.specs.Places.{places_in}
 use Rattle.terms.specs.declared.Places.{Places}
 use Rattle.terms.specs.Shown.{shown, Sized, known_places, pasted_of, Added}
-use Rattle.terms.proofs.Showing.{take_most, pasted_shown, pasted_sized, known_length, part_length, text_known, cut_of, cut_shown}
+use Rattle.terms.proofs.Showing.{pasted_shown, pasted_sized, known_length, part_length, text_known, cut_of, cut_shown}
 
 module _ (text : List ℕ) (p v : Places) (zp : Sized p) (r : Places) where
   -- the places m, which are the part x, behind p
@@ -29,8 +30,8 @@ module _ (text : List ℕ) (p v : Places) (zp : Sized p) (r : Places) where
 
   pub add_all : p.len + v.len ≤ 60 → r ≡ pasted_of p (take v.len v.of) → Added text p v All r
   unfolding piece full_length shown
-  add_all room e = pasted All (take v.len v.of) room refl (take_most v.len v.of) e
+  add_all room e = pasted All (take v.len v.of) room refl (omega (arith, length-take v.len v.of)) e
 
   pub add_cut : (a b : ℕ) → p.len + b ≤ 60 → r ≡ pasted_of p (cut_of a b v.len v.of) → Added text p v (Cut a b) r
   unfolding piece full_length
-  add_cut a b room e = pasted (Cut a b) (cut_of a b v.len v.of) room (cut_shown v a b) (take_most b (drop a (take v.len v.of))) e
+  add_cut a b room e = pasted (Cut a b) (cut_of a b v.len v.of) room (cut_shown v a b) (omega (arith, length-take b (drop a (take v.len v.of)))) e

@@ -7,7 +7,7 @@ use native.Mathlib.Decide.{dec_lt}
 use lib.ListN.{length, take, drop, replicate, length-map, length-drop, take-append-drop}
 use lib.Seq.{paste, take-paste, length-paste, length-take-le, take-length, take-append-add, take-take, take_all}
 use Rattle.std.specs.Prelude.{Option, None}
-use Rattle.std.proofs.lemmas.List.{take-map, drop-map, take-replicate, drop-replicate}
+use Rattle.std.proofs.lemmas.List.{length-take, take-map, drop-map, take-replicate, drop-replicate}
 use Rattle.paper.specs.Rows.{stretch}
 use Rattle.paper.specs.Terms.{Place, Known, Unknown, places_of}
 use Rattle.paper.proofs.Derivation.{stretch_part}
@@ -31,11 +31,6 @@ places_append s t = map-append place_of s t
 pub places_length : (s : List (Option ℕ)) → length (places_in s) ≡ length s
 unfolding places_in
 places_length s = length-map s place_of
-
-pub take_most : {A : Type 0} (n : ℕ) (s : List A) → length (take n s) ≤ n
-take_most zero s = omega arith
-take_most (suc n) [] = omega arith
-take_most (suc n) (x ∷ s) = let h = take_most n s in omega arith
 
 pub shown_length : (p : Places) → Sized p → length (shown p) ≡ p.len
 unfolding shown
@@ -130,7 +125,7 @@ pub cut_ends : (a b n : ℕ) (t : List (Option ℕ)) → take (min n (a + b) - a
 cut_ends a b n t = rw (drop_first a n t) (go (dec_lt (n - a) b))
   where
     go : Dec (n - a < b) → take (min n (a + b) - a) (drop a t) ≡ take b (take (n - a) (drop a t))
-    go (yes l) = let z : min n (a + b) - a ≡ n - a = omega arith in rw z (sym (take_all b (take (n - a) (drop a t)) (omega (arith, take_most (n - a) (drop a t)))))
+    go (yes l) = let z : min n (a + b) - a ≡ n - a = omega arith in rw z (sym (take_all b (take (n - a) (drop a t)) (omega (arith, length-take (n - a) (drop a t)))))
     go (no l) = let z : min n (a + b) - a ≡ b = omega arith in rw z (sym (take-take b (n - a) (drop a t) (omega arith)))
 
 pub cut_shown : (v : Places) (a b : ℕ) → places_in (cut_of a b v.len v.of) ≡ take b (drop a (shown v))

@@ -2,12 +2,13 @@ use Prim.Native.Nat.{◌+◌, ◌≤◌}
 use mathlib.Core.Path.{◌≡◌, ap, ◌∙◌}
 use native.Mathlib.Omega.{arith}
 use lib.ListN.{length, take, drop}
+use Rattle.std.proofs.lemmas.List.{length-take}
 use Rattle.paper.specs.Sheet.{text_of}
 use Rattle.paper.specs.Terms.{full_length}
 use Rattle.sheet.proofs.Contents.{text_length}
 use Rattle.terms.specs.declared.Places.{Places}
 use Rattle.terms.specs.Shown.{known_places, pasted_of}
-use Rattle.terms.proofs.Showing.{take_most, bytes_sized, bytes_len, bytes_here}
+use Rattle.terms.proofs.Showing.{bytes_sized, bytes_len, bytes_here}
 use Rattle.terms.proofs.Adding.{add_const, add_all, add_cut}
 use Rattle.terms.proofs.Places.add_part.Goals.{In-All, In-Const, In-Cut, After-places}
 use Rattle.terms.proofs.Places.add_part.Goals as goal
@@ -27,7 +28,7 @@ cut c = rw c.in-Cut.is at c.requires.5
 
 -- a constant's bytes are few enough
 few : (c : In-Const) → length (take c.in-Const.b (drop c.in-Const.a (text_of c.args.s.now))) ≤ 60
-few c = omega (arith, const c, take_most c.in-Const.b (drop c.in-Const.a (text_of c.args.s.now)))
+few c = omega (arith, const c, length-take c.in-Const.b (drop c.in-Const.a (text_of c.args.s.now)))
 
 -- its places
 here : (c : After-places) → c.places.result.now ≡ known_places (take c.in-Const.b (drop c.in-Const.a (text_of c.args.s.now)))
@@ -42,7 +43,7 @@ places-requires c = rw c.constant.ensures (bytes_sized _ (few (goal.at.places-re
 pub add-requires : goal.add-requires
 add-requires c =
     let i = (goal.at.add-requires c).In-Const in
-    (c.requires.3, omega (arith, const i, take_most c.in-Const.b (drop c.in-Const.a (text_of c.args.s.now)), c.places.ensures.1 ∙ ap (λ (q : Places). q.len) c.constant.ensures ∙ bytes_len _))
+    (c.requires.3, omega (arith, const i, length-take c.in-Const.b (drop c.in-Const.a (text_of c.args.s.now)), c.places.ensures.1 ∙ ap (λ (q : Places). q.len) c.constant.ensures ∙ bytes_len _))
 
 pub add-requires-in-All : goal.add-requires-in-All
 add-requires-in-All c = (c.requires.3, omega (arith, all (goal.at.add-requires-in-All c).In-All, c.places-in-All.ensures.1))
