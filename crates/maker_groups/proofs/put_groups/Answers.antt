@@ -22,9 +22,3 @@ put_group-p-requires c =
 pub loop-m-preserved : goal.loop-m-preserved
 unfolding groups
 loop-m-preserved c = gather_turn (group (grammar_of c.args.s.now)) c.loop-m.m c.loop-m.invariant c.put_group-p.ensures
-
-pub returns : goal.returns
-returns c =
-    let a = c.args in
-    let e : c.loop-m.m ≡ a.j.n + 1 = omega arith in
-    put_same (ap (λ (z : ℕ). groups (grammar_of a.s.now) z) e) c.loop-m.invariant

@@ -22,8 +22,3 @@ loop-k-preserved c =
     let a = c.args in
     let l = c.loop-k in
     splits_turn l.k a.a a.b (omega arith) l.invariant c.put_option-p.ensures
-
-pub returns : goal.returns
-returns c =
-    let a = c.args in
-    let e : c.loop-k.k ≡ a.m = omega arith in put_same (ap (λ (z : ℕ). all_bytes (splits z a.a a.b)) e) c.loop-k.invariant

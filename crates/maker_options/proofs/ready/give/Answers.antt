@@ -7,9 +7,6 @@ use Rattle.maker_options.proofs.Turns.{job_rows, job_few}
 use Rattle.maker_options.proofs.Entries.{given_none, given_more}
 use Rattle.maker_options.proofs.ready.give.Goals as goal
 
-pub loop-m-init : goal.loop-m-init
-loop-m-init c = given_none (grammar_of c.args.s.now) c.args.ws.now c.requires.1
-
 pub loop-m-preserved : goal.loop-m-preserved
 loop-m-preserved c =
     let a = c.args in

@@ -4,12 +4,6 @@ use Rattle.maker_options.proofs.Turns.{job_few, job_rows}
 use Rattle.maker_options.proofs.Entries.{ready_is}
 use Rattle.maker_options.proofs.ready.prepare.Goals as goal
 
-pub reach-requires : goal.reach-requires
-reach-requires c = let few = job_few c.requires.0 in search rules
-
-pub turn-requires : goal.turn-requires
-turn-requires c = let few = job_few c.requires.0 in search rules
-
 pub returns : goal.returns
 returns c =
     let a = c.args in

@@ -11,9 +11,6 @@ use Rattle.paper.specs.Cuts.{entry}
 use Rattle.maker_options.proofs.Turns.{entries_sum, group_bound, job_rows}
 use Rattle.maker_options.proofs.sizes.group_length.Goals as goal
 
-pub sum-requires-clause-can : goal.sum-requires-clause-can
-sum-requires-clause-can c = (tt, serves_from_Range (λ x q k. search rules) (λ x low high. search rules))
-
 pub sum-requires-clause-fits : goal.sum-requires-clause-fits
 sum-requires-clause-fits c =
     let g = grammar_of c.args.s.now in

@@ -22,11 +22,3 @@ loop-m-preserved c =
     let g = grammar_of c.args.s.now in
     let l = c.loop-m in
     (omega (arith, groups_more g l.m, l.invariant.0, c.group_length-total.ensures), offset_more g l.m l.offsets l.total (omega (arith, c.requires.0.job.short)) l.invariant.0 l.invariant.1)
-
-pub returns : goal.returns
-returns c =
-    let a = c.args in
-    let g = grammar_of a.s.now in
-    let l = c.loop-m in
-    let e : l.m ≡ a.j.n + 1 = omega arith in
-    (l.invariant.0 ∙ ap (λ (z : ℕ). length (groups g z)) e, subst (λ (z : ℕ). Offsets g z l.offsets) e l.invariant.1)
