@@ -14,7 +14,7 @@ pub enum Opt {
     Nil,
 }
 
-// An option at o.
+// An option at o, by the paper's number of its kind.
 pub fn put_option(list: &mut [u8], o: usize, x: Opt) -> usize
     requires { o + 8 ≤ length list.old }
     ensures { Put (option_bytes (as_opt x)) o list.old list.new result }

@@ -1,7 +1,7 @@
 -- A table's entries filled row by row.
 -- Assumes nothing.
 use Prim.Native.Nat.{ℕ, ◌+◌, ◌*◌, ◌≤◌, ◌<◌}
-use mathlib.Core.Path.{◌≡◌, refl, ◌∙◌}
+use mathlib.Core.Path.{◌≡◌, ◌∙◌}
 use mathlib.Core.Logic.{◌≢◌}
 use mathlib.Core.Bool.{Bool, not}
 use mathlib.Core.List.{List}
@@ -37,9 +37,6 @@ module _ (f : ℕ → Bool) (e n : ℕ) (old mid now : List ℕ) (room : 4 * e +
 
 -- ---- each row's entry
 
-pub turned_none : (from : List ℕ) (n : ℕ) (ws : List ℕ) → length ws ≡ 1268 → Turned from n 0 ws
-turned_none from n ws h = record { long = h; each = λ r q l u. absurd (omega arith) }
-
 pub turned_more : (from : List ℕ) (n k : ℕ) {ws mid now : List ℕ} → k < n → n ≤ 256 → Turned from n k ws → mid ≡ wiped ws k → now ≡ put_below (across from k) mid k n → Turned from n (k + 1) now
 turned_more from n k {ws = ws} h few x clean made =
     let f = across from k in
@@ -49,9 +46,6 @@ turned_more from n k {ws = ws} h few x clean made =
     }
 
 -- ---- each length's entry
-
-pub given_none : (g : Grammar) (ws : List ℕ) → length ws ≡ 1268 → Given g 1 ws ws
-given_none g ws h = record { long = h; each = λ m q a b u. absurd (omega arith); kept = λ t q l. refl }
 
 pub given_more : (g : Grammar) (k rows : ℕ) {old ws mid now : List ℕ} → 1 ≤ k → k ≤ 60 → rows ≤ 256 → rows ≡ length g.rows → Given g k old ws
     → mid ≡ wiped ws (256 + k) → now ≡ put_below (giving g k) mid (256 + k) rows → Given g (k + 1) old now

@@ -1,10 +1,7 @@
-use Prim.Native.Nat.{ℕ, ◌+◌}
-use mathlib.Core.Path.{◌≡◌, ap}
 use native.Mathlib.Omega.{arith}
 use Rattle.paper.specs.Sheet.{grammar_of}
 use Rattle.paper.specs.Cuts.{group, groups}
 use Rattle.maker_options.proofs.Turns.{groups_inside}
-use Rattle.numbers.proofs.Stores.{put_same}
 use Rattle.maker_groups.proofs.Writing.{gather_none, gather_turn}
 use Rattle.maker_groups.proofs.put_groups.Goals as goal
 

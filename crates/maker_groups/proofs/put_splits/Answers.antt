@@ -1,8 +1,4 @@
-use Prim.Native.Nat.{ℕ}
-use mathlib.Core.Path.{◌≡◌, ap}
 use native.Mathlib.Omega.{arith}
-use Rattle.paper.specs.Cuts.{splits, all_bytes}
-use Rattle.numbers.proofs.Stores.{put_same}
 use Rattle.maker_groups.proofs.Writing.{splits_start, splits_turn, splits_size}
 use Rattle.maker_groups.proofs.put_splits.Goals as goal
 

@@ -4,7 +4,7 @@ use Rattle.paper.specs.Sheet.{grammar_of}
 use Rattle.workspace.proofs.Where.{put_where_is}
 use Rattle.maker_options.specs.Giving.{giving}
 use Rattle.maker_options.proofs.Turns.{job_rows, job_few}
-use Rattle.maker_options.proofs.Entries.{given_none, given_more}
+use Rattle.maker_options.proofs.Entries.{given_more}
 use Rattle.maker_options.proofs.ready.give.Goals as goal
 
 pub loop-m-preserved : goal.loop-m-preserved

@@ -1,4 +1,3 @@
-use borrow.Author.Rules.{rules}
 use Rattle.paper.specs.Sheet.{grammar_of}
 use Rattle.maker_options.proofs.Turns.{job_few, job_rows}
 use Rattle.maker_options.proofs.Entries.{ready_is}

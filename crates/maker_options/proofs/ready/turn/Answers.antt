@@ -2,7 +2,7 @@ use native.Mathlib.Omega.{arith}
 use borrow.Author.Rules.{rules}
 use Rattle.workspace.proofs.Where.{put_where_is}
 use Rattle.maker_options.specs.Prepared.{across}
-use Rattle.maker_options.proofs.Entries.{turned_none, turned_more}
+use Rattle.maker_options.proofs.Entries.{turned_more}
 use Rattle.maker_options.proofs.ready.turn.Goals as goal
 
 pub loop-r-preserved : goal.loop-r-preserved

@@ -1,10 +1,5 @@
-use Prim.Native.Nat.{ℕ, ◌+◌}
-use mathlib.Core.Path.{◌≡◌, ap, ◌∙◌, subst}
 use native.Mathlib.Omega.{arith}
-use lib.ListN.{length}
 use Rattle.paper.specs.Sheet.{grammar_of}
-use Rattle.paper.specs.Cuts.{groups}
-use Rattle.maker_options.specs.Prepared.{Offsets}
 use Rattle.maker_options.proofs.Turns.{groups_none, groups_more, groups_inside, groups_bound, offset_more}
 use Rattle.maker_options.proofs.sizes.measure.Goals as goal
 
