@@ -55,6 +55,7 @@ abbrev pub told_worded : Result (Unit {0}) Fault → paper.Fault
 told_worded (Ok x) = no_fault
 told_worded (Err f) = worded f
 
+-- what a call takes
 abbrev pub taken : Takes → paper.Takes
 taken t = record { first = t.first; last = t.last; bytes = t.bytes }
 

@@ -215,7 +215,7 @@ fn in_range(s: &[u8], o: usize, b: u8) -> bool
     requires { o + 2 ≤ length s.now }
     ensures { result ≡ (leb (u8_at s.now o) b && leb b (u8_at s.now (o + 1))) }
 {
-    s[o] <= b && b <= s[o + 1]
+    (s[o]..=s[o + 1]).contains(&b)
 }
 
 pub fn is_letter(s: &[u8], b: u8) -> bool

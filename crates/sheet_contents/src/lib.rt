@@ -53,7 +53,7 @@ pub fn pair_at(s: &[u8], o: usize) -> (usize, usize)
     (numbers::u16_at(s, o), numbers::u16_at(s, o + 2))
 }
 
-// The row of each kind.
+// The row of each kind. Paper 01 names the form: a decision over the record kinds with ranges.
 pub fn row_of(kind: u8, a: usize, b: usize) -> Option<Row>
     ensures { RowOf kind a b result }
 {
@@ -64,7 +64,7 @@ pub fn row_of(kind: u8, a: usize, b: usize) -> Option<Row>
         4 => Some(Row::Alt(a, b)),
         5 => Some(Row::Seq(a, b)),
         6 => Some(Row::Star(a)),
-        _ => None,
+        0 | 7..=255 => None,
     }
 }
 
@@ -85,7 +85,7 @@ pub fn part_of(kind: u8, a: usize, b: usize) -> Option<Part>
         1 => Some(Part::Const(a, b)),
         2 => Some(Part::All),
         3 => Some(Part::Cut(a, b)),
-        _ => None,
+        0 | 4..=255 => None,
     }
 }
 
@@ -107,7 +107,7 @@ pub fn claim_of(kind: u8, a: usize, b: usize) -> Option<Claim>
         2 => Some(Claim::Contains(a, b)),
         3 => Some(Claim::Equals(a, b)),
         4 => Some(Claim::ContainsTerm(a, b)),
-        _ => None,
+        0 | 5..=255 => None,
     }
 }
 

@@ -20,7 +20,7 @@ fn row_fields(rows: usize, text: usize, kind: u8, a: usize, b: usize) -> bool
 {
     match row_of(kind, a, b) {
         Some(Row::Empty) => a == 0 && b == 0,
-        Some(Row::Range(low, high)) => low <= high && high <= 255,
+        Some(Row::Range(low, high)) => (low..=255).contains(&high),
         Some(Row::Text(at, count)) => at + count <= text,
         Some(Row::Alt(x, y) | Row::Seq(x, y)) => x < rows && y < rows,
         Some(Row::Star(x)) => x < rows && b == 0,

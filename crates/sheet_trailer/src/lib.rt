@@ -140,7 +140,7 @@ pub fn mark_ok(s: &[u8], first: usize, last: usize) -> bool
     ensures { result ≡ mark_ok first last s.now }
 {
     let e = edition(s);
-    first <= e && e <= last && numbers::mark_at(s, s.len() - 4, &mark(e))
+    (first..=last).contains(&e) && numbers::mark_at(s, s.len() - 4, &mark(e))
 }
 
 #[tactic(auto, unfolding(paper::specs::Trailer::total_ok))]
@@ -168,7 +168,7 @@ fn count_ok(s: &[u8], t: usize) -> bool
 {
     let (least, most) = COUNTS[t];
     let n = count_of(s, t);
-    least <= n && n <= most
+    (least..=most).contains(&n)
 }
 
 // The first table whose count is outside its limits.
