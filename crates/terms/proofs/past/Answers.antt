@@ -6,6 +6,6 @@ pub returns-in-Const : goal.returns-in-Const
 unfolding cut_inside
 returns-in-Const c =
     elim c.in-Const.is [
-      inl (a, b, e) ↦ rw e
-    | inr e ↦ rw e
+      | inl (a, b, e) ↦ rw e
+      | inr e ↦ rw e
     ]

@@ -18,6 +18,6 @@ unfolding meet allows place_of
 returns-in-Some-None c =
     λ s g.
     elim c.in-Some-None-1.branch [
-      in-Some-None w ↦ let e : c.in-Some-None-1.a ≡ w.in-Some-None.field-0-0 = cc in rw (w.in-Some-None.is-0, w.in-Some-None.is-1) (c.is_letter.ensures ∙ g.letters c.from.result ∙ ap (letter s) (c.from.ensures ∙ e))
-    | in-Some-None-2 w ↦ let e : c.in-Some-None-1.a ≡ w.in-Some-None.field-0-1 = cc in rw (w.in-Some-None.is-0, w.in-Some-None.is-1) (c.is_letter.ensures ∙ g.letters c.from.result ∙ ap (letter s) (c.from.ensures ∙ e))
+      | in-Some-None w ↦ let e : c.in-Some-None-1.a ≡ w.in-Some-None.field-0-0 = cc in rw (w.in-Some-None.is-0, w.in-Some-None.is-1) (c.is_letter.ensures ∙ g.letters c.from.result ∙ ap (letter s) (c.from.ensures ∙ e))
+      | in-Some-None-2 w ↦ let e : c.in-Some-None-1.a ≡ w.in-Some-None.field-0-1 = cc in rw (w.in-Some-None.is-0, w.in-Some-None.is-1) (c.is_letter.ensures ∙ g.letters c.from.result ∙ ap (letter s) (c.from.ensures ∙ e))
     ]

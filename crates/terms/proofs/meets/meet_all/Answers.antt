@@ -16,6 +16,6 @@ unfolding meet_all
 returns c =
     λ s g.
     all_from_yields_List (λ (p : Option ℕ × Option ℕ). meet s (place_of p.0) (place_of p.1)) c.all.new.self _ c.all.result c.all.ensures.ran
-      (YieldsList-from_zip (YieldsList-from_slice c.args.p.now cc) (YieldsList-from_slice c.args.q.now cc))
-      (λ x b q k. search (rules, tests))
+    (YieldsList-from_zip (YieldsList-from_slice c.args.p.now cc) (YieldsList-from_slice c.args.q.now cc))
+    (λ x b q k. search (rules, tests))
     ∙ all_zipped (λ x y. meet s (place_of x) (place_of y)) c.args.p.now c.args.q.now None None (omega arith)
