@@ -1,6 +1,6 @@
 -- The search for a key as a loop: its invariant, with a law for each turn and each end. A turn judges the prefix at hand, then advances.
 use mathlib.Core.Path.{◌≡◌, refl}
-use Prim.Native.Nat.{ℕ, zero, suc, ◌+◌, ◌≤◌, ◌<◌}
+use Prim.Native.Nat.{ℕ, ◌+◌, ◌≤◌, ◌<◌}
 use native.Mathlib.Omega.{arith}
 use mathlib.Core.Bool.{Bool, true}
 use mathlib.Core.List.{List}
@@ -11,9 +11,9 @@ use Rattle.paper.specs.Answers.{Found, None, Spent, under}
 use Rattle.walk_state.specs.declared.State.{State}
 use Rattle.walk_state.specs.Moves.{start_state, again_of}
 use Rattle.walk.specs.Counts.{Counts}
-use Rattle.walk.specs.Progress.{Classes, Judging, Landed, Landing, At, Knows}
+use Rattle.walk.specs.Progress.{Classes, Judging}
 use Rattle.walk.specs.Posts.{Frame, AdvancedTo, AdvancedOver}
-use Rattle.walk.proofs.Frames.{frame_start, frame_here, frame_again}
+use Rattle.walk.proofs.Frames.{frame_start, frame_again}
 use Rattle.walk.proofs.Ends.{Length, first_length, next_length, at_root, judging_over, end_found, end_none, end_over}
 
 module _ (is : ℕ → Bool) (slot : List ℕ) (opens : ℕ → List ℕ → Bool) (lo hi budget : ℕ) where
@@ -36,14 +36,6 @@ module _ (is : ℕ → Bool) (slot : List ℕ) (opens : ℕ → List ℕ → Boo
     at = at_root is slot opens lo hi lo start_state.prefix.bytes start_state.begun m 0 refl;
   }
 
-  landed_judging : (n : ℕ) (q : State) (m : Counts) → (q.prefix.len ≡ 0 → ⊥) → Landed is slot opens n q m → Judging is slot opens n q m
-  landed_judging n q m = go q.prefix.len
-    where
-      go : (k : ℕ) → (k ≡ 0 → ⊥) → Landing is slot opens n k q.prefix.bytes q.begun m q.trials
-          → At is opens n k q.prefix.bytes q.begun q.trials × Knows is slot opens n k q.prefix.bytes m
-      go zero h d = absurd (h refl)
-      go (suc k) h d = d
-
   module _ (n : ℕ) (q : State) (m : Counts) (s : Seeking n q m) where
     -- the prefix at hand is the word
     pub seek_found : q.trials < budget → q.prefix.len ≡ n → opens n (take q.prefix.len q.prefix.bytes) ≡ true
@@ -65,17 +57,6 @@ module _ (is : ℕ → Bool) (slot : List ℕ) (opens : ℕ → List ℕ → Boo
         -- the last length is done
         pub seek_none : r.prefix.len ≡ 0 → n ≡ hi → under budget (walk is opens lo hi) ≡ None r.trials
         seek_none e f = end_none is slot opens lo hi budget n (get_or q.begun 0 0) r m' f e a.frame.most a.frame.root s.sofar (a.to opens classes s.at o)
-
-        -- the next prefix
-        pub seek_next : (r.prefix.len ≡ 0 → ⊥) → Seeking n r m'
-        seek_next e = record {
-          range = s.range;
-          top = s.top;
-          within = a.within;
-          frame = frame_here budget q r a.frame;
-          sofar = rw a.frame.root s.sofar;
-          at = landed_judging n r m' e (a.to opens classes s.at o);
-        }
 
         -- the next length
         pub seek_length : r.prefix.len ≡ 0 → (n ≡ hi → ⊥) → Seeking (n + 1) (again_of r) m'
