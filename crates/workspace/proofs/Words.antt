@@ -2,17 +2,12 @@
 -- Assumes nothing.
 use mathlib.Core.Path.{◌≡◌, refl, ap, ◌∙◌}
 use mathlib.Core.Logic.{◌≢◌}
-use mathlib.Core.List.{List, [], ◌∷◌}
+use mathlib.Core.List.{List}
 use Prim.Native.Nat.{ℕ, zero, suc, ◌+◌, ◌-◌, ◌*◌, ◌/◌, ◌%◌, ◌^◌, ◌≤◌, ◌<◌}
 use native.Mathlib.Nat.{add-zero, div-eq_of_lt, div-lt_iff_lt-mul, zero-div}
 use native.Mathlib.Omega.{arith}
 use lib.ListN.{length, get_or, set, drop, length-set}
 use lib.Seq.{get_or-set_same, get_or-set_other, drop-set-lt}
-use native.Mathlib.Decide.{ℕ_discrete}
-use lib.Dec.{eqb}
-use lib.Pointwise.{pointwise, bytes_decides}
-use Rattle.std.proofs.lemmas.Bool.{false_from_ne_true}
-use borrow.Author.Tests.{ne_eqb}
 use lib.Pow.{pow-add, pow-lt, pow_mono, pow_pos, shl-shr}
 use lib.Bits.{bit_or, or_shr, or_mod, or_zero_r, or_add_and, and_le_l, and_le_r}
 use Rattle.workspace.specs.Bits.{bit, four_at, word_at}
@@ -146,22 +141,3 @@ module _ (ws : List ℕ) (s a b c d : ℕ) where
       drop-set-lt n (set (set ws (4 * s) a) (4 * s + 1) b) (4 * s + 2) c (omega arith) ∙
       drop-set-lt n (set ws (4 * s) a) (4 * s + 1) b (omega arith) ∙
       drop-set-lt n ws (4 * s) a (omega arith)
-
--- four words are none where they have no bit together
-pub none_words : (a b c d : ℕ) → pointwise eqb (a ∷ b ∷ c ∷ d ∷ []) (0 ∷ 0 ∷ 0 ∷ 0 ∷ []) ≡ eqb (bit_or (bit_or (bit_or a b) c) d) 0
-none_words a b c d = go (ℕ_discrete (bit_or (bit_or (bit_or a b) c) d) 0)
-  where
-    none : List ℕ
-    none = 0 ∷ 0 ∷ 0 ∷ 0 ∷ []
-
-    go : Dec (bit_or (bit_or (bit_or a b) c) d ≡ 0) → pointwise eqb (a ∷ b ∷ c ∷ d ∷ []) none ≡ eqb (bit_or (bit_or (bit_or a b) c) d) 0
-    go (yes e) =
-        let abc : bit_or (bit_or a b) c ≡ 0 = or_none_left _ d e in
-        let ab : bit_or a b ≡ 0 = or_none_left _ c abc in
-        rw (or_none_left a b ab, or_none_right a b ab, or_none_right (bit_or a b) c abc, or_none_right (bit_or (bit_or a b) c) d e) refl
-    go (no ne) = rw (ne_eqb (bit_or (bit_or (bit_or a b) c) d) 0 ne) (false_from_ne_true _ (λ h. ne (zero ((bytes_decides (a ∷ b ∷ c ∷ d ∷ []) none).0 h))))
-      where
-        zero : (a ∷ b ∷ c ∷ d ∷ []) ≡ none → bit_or (bit_or (bit_or a b) c) d ≡ 0
-        zero l =
-            let at : (k : ℕ) → get_or (a ∷ b ∷ c ∷ d ∷ []) k 0 ≡ get_or none k 0 = λ k. ap (λ x. get_or x k 0) l in
-            rw (at 0, at 1, at 2, at 3) refl

@@ -60,14 +60,14 @@ pub fn put_where<F: Fn(usize) -> bool>(ws: &mut [u64], s: usize, n: usize, test:
     }
 }
 
-// Whether span s has no row.
-#[tactic(auto, using(crate::proofs::Words::none_words), unfolding(crate::specs::Bits::none_at))]
+// Whether span s has no row: one test of the four words together, where `==` on the array makes two branches.
+#[tactic(auto, unfolding(crate::specs::Bits::none_at))]
 pub fn none(ws: &[u64], s: usize) -> bool
     requires { 4 * s + 4 ≤ length ws.now }
     ensures { result ≡ none_at ws.now s }
 {
-    let i = 4 * s;
-    ws[i] | ws[i + 1] | ws[i + 2] | ws[i + 3] == 0
+    let [a, b, c, d] = four(ws, s);
+    a | b | c | d == 0
 }
 
 // The first row from p on and below n that the sets at entries a and b both have. Words that have none left are passed over whole.
