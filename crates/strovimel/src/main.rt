@@ -58,7 +58,7 @@ fn answer(rt: &impl Print, sheet: &[u8]) -> io::Result<()> {
     }
 }
 
-// Reads until the room is full or the input ends: how many bytes there are.
+// Reads until the room is full or the input ends: how many bytes there are. (`read_to_end` would want a heap.)
 fn read_full(input: &mut impl Read, room: &mut [u8]) -> io::Result<usize>
     ensures { IfOk result (λ n. n ≤ length room.new) }
 {
