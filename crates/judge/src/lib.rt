@@ -56,7 +56,7 @@ pub fn possible(
 {
     let second = sheet_contents::second_run(a.claim);
     if !terms::inside(s, parts, v.len, a.term) || !terms::inside(s, parts, v.len, second) {
-        return false;
+        return false; // a cut past the end of v is not met
     }
     let p = terms::term(s, parts, v, a.term);
     let q = terms::term(s, parts, v, second);

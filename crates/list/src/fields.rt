@@ -88,7 +88,7 @@ impl Kind {
             2 => Some(Kind::Stretch),
             3 => Some(Kind::Split),
             4 => Some(Kind::Nil),
-            _ => None,
+            0 | 5..=255 => None,
         }
     }
 }
