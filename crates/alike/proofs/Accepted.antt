@@ -14,7 +14,6 @@ use Rattle.paper.specs.Sheet.{of_table, assertion_at, grammar_of, sheet_of}
 use Rattle.paper.specs.Opens.{opens}
 use Rattle.paper.proofs.Sound.{SoundPart}
 use Rattle.paper.proofs.Tests.{at_every}
-use Rattle.walk.specs.Counts.{Small}
 use Rattle.walk.specs.Progress.{Classes}
 use Rattle.sheet.specs.Good.{Good}
 use Rattle.sheet.proofs.Contents.{rows_length, parts_length, assertions_length, row_here, part_here, assertion_here}
@@ -67,5 +66,5 @@ module _ (s : List ℕ) (g : Good s) where
 
 -- ---- no byte has a slot
 
-pub none_classes : (k : ℕ) (opens : ℕ → List ℕ → Bool) → Classes opens (replicate k 0) × Small (replicate k 0)
-none_classes k opens = ((λ b c l m p d. absurd (omega (arith, zero_at k b))), (λ b. omega (arith, zero_at k b)))
+pub none_classes : (k : ℕ) (opens : ℕ → List ℕ → Bool) → Classes opens (replicate k 0)
+none_classes k opens b c l m p d = absurd (omega (arith, zero_at k b))

@@ -89,7 +89,6 @@ module _ (ws : List ℕ) (free : List Bool) (owners : List (Option ℕ)) (slot :
 
 pub slotted_given : (ws : List ℕ) (free : List Bool) (owners : List (Option ℕ)) (slot : List ℕ) (i : ℕ) → Slotted ws free owners slot i → Given ws free slot
 slotted_given ws free owners slot i s = record {
-  small = s.below;
   free = λ b l. s.free b;
   alike = λ b c l m p d.
       let k = get_or slot b 0 in

@@ -3,7 +3,6 @@ use Rattle.std.specs.Prelude.{ℕ, ◌+◌, ◌≤◌, ◌<◌, ◌≡◌, Bool,
 use Rattle.paper.specs.Rows.{Grammar, row}
 use Rattle.paper.specs.Sheet.{Sheet, letter}
 use Rattle.workspace.specs.Bits.{bit_at}
-use Rattle.walk.specs.Counts.{Small}
 use Rattle.sheet_contents.specs.Ranges.{holds_byte}
 use Rattle.alike.specs.Untold.{Absent}
 
@@ -62,6 +61,5 @@ pub record Slotted (ws : List ℕ) (may : List Bool) (owners : List (Option ℕ)
 
 -- bytes of one slot may have it, and the same rows hold them
 pub record Given (ws : List ℕ) (may : List Bool) (slot : List ℕ) : Type 0 where
-  pub small : Small slot
   pub free : (b : ℕ) → b < 256 → 0 < get_or slot b 0 → get_or may b false ≡ true
   pub alike : (b c : ℕ) → b < 256 → c < 256 → 0 < get_or slot b 0 → get_or slot b 0 ≡ get_or slot c 0 → SameRows ws b c

@@ -7,25 +7,20 @@ mod ranges;
 ghost use Rattle.std.specs.Prelude.{◌≡◌, ◌<◌, length, IfSome};
 ghost use Rattle.paper.specs.Sheet.{sheet_of};
 ghost use Rattle.paper.specs.Opens.{opens};
-ghost use Rattle.sheet.specs.Good.{Good};
-ghost use Rattle.walk.specs.Counts.{Small};
 ghost use Rattle.walk.specs.Progress.{Classes};
 ghost use Rattle.alike.specs.Slots.{Letters, Without, Free, PlaceFor, Given};
 
-// A slot for each byte: letters of one slot are alike; slot 0 says nothing. A number and no option, for the walk's counts stand by it.
-#[derive(Clone, Copy)]
-pub struct Slots {
-    pub of: [u8; 256],
-}
+use ranges::Entries;
+use sheet::Sheet;
+use walk::Slots;
 
 // Every letter may have a slot, and no other byte.
-fn letters(s: &[u8]) -> [bool; 256]
-    requires { Good s.now }
-    ensures { Letters (sheet_of s.now) 256 result }
+fn letters(sheet: &Sheet) -> [bool; 256]
+    ensures { Letters (sheet_of sheet.now.bytes.now) 256 result }
 {
     let mut free = [false; 256];
     for (b, may) in free.iter_mut().enumerate() {
-        *may = sheet::is_letter(s, b as u8);
+        *may = sheet.is_letter(b as u8);
     }
     free
 }
@@ -41,23 +36,22 @@ fn without(mut free: [bool; 256], text: &[u8]) -> [bool; 256]
 }
 
 // Which bytes may have a slot.
-fn free(s: &[u8]) -> [bool; 256]
-    requires { Good s.now }
-    ensures { Free (sheet_of s.now) result }
+fn free(sheet: &Sheet) -> [bool; 256]
+    ensures { Free (sheet_of sheet.now.bytes.now) result }
 {
-    without(letters(s), sheet::text_of(s))
+    without(letters(sheet), sheet.text)
 }
 
 // Whether a later byte would share a slot with b: a slot for one byte is of no use, though it would be right.
-fn has_mate(ws: &[u64], free: &[bool; 256], b: usize) -> bool
-    requires { (length ws.now ≡ 1024) × (b < 256) }
+fn has_mate(ws: &Entries, free: &[bool; 256], b: usize) -> bool
+    requires { b < 256 }
 {
     (b + 1..256).any(|c| free[c] && ranges::same(ws, b, c))
 }
 
 // The place of an owner whose rows are those of b, or the first place with no owner if b has a mate.
-fn place_for(ws: &[u64], free: &[bool; 256], owners: &[Option<u8>; 7], b: usize) -> Option<usize>
-    requires { (length ws.now ≡ 1024) × (b < 256) }
+fn place_for(ws: &Entries, free: &[bool; 256], owners: &[Option<u8>; 7], b: usize) -> Option<usize>
+    requires { b < 256 }
     ensures { IfSome result (λ k. PlaceFor ws.now free.now owners.now b k) }
 {
     if !free[b] {
@@ -74,30 +68,28 @@ fn place_for(ws: &[u64], free: &[bool; 256], owners: &[Option<u8>; 7], b: usize)
 }
 
 // Slots for the bytes that may have one, by their rows.
-fn given(ws: &[u64], free: &[bool; 256]) -> Slots
-    requires { length ws.now ≡ 1024 }
+fn given(ws: &Entries, free: &[bool; 256]) -> Slots
     ensures { Given ws.now free.now result.of }
 {
-    let mut slots = Slots { of: [0; 256] };
+    let mut of = [0; 256];
     let mut owners = [None; 7];
     for b in 0..256 {
         if let Some(k) = place_for(ws, free, &owners, b) {
-            slots.of[b] = (k + 1) as u8;
+            of[b] = (k + 1) as u8;
             owners[k] = Some(b as u8);
         }
     }
-    slots
+    Slots { of }
 }
 
 // Where the sheet compares v with v no two letters are known to be alike.
-pub fn slots_of(s: &[u8]) -> Slots
-    requires { Good s.now }
-    ensures { Classes (opens (sheet_of s.now)) result.of × Small result.of }
+pub fn slots_of(sheet: &Sheet) -> Slots
+    ensures { Classes (opens (sheet_of sheet.now.bytes.now)) result.of }
 {
-    if compare::some_compares(s) {
+    if compare::some_compares(sheet) {
         return Slots { of: [0; 256] };
     }
     let mut ws = [0; 1024];
-    ranges::hold_rows(s, &mut ws);
-    given(&ws, &free(s))
+    ranges::hold_rows(sheet, &mut ws);
+    given(&ws, &free(sheet))
 }

@@ -1,4 +1,4 @@
-pub mod Reaching
+pub mod Pairing
 pub mod Owning
 pub mod Filling
 pub mod Rows

@@ -1,6 +1,6 @@
 -- What a row does by itself, by its kind, and that a cell's steps find it.
 -- Assumes nothing.
-use Prim.Native.Nat.{ℕ, suc, ◌+◌, ◌-◌, ◌/◌, ◌%◌, ◌≤◌, ◌<◌}
+use Prim.Native.Nat.{ℕ, suc, ◌+◌, ◌-◌, ◌≤◌, ◌<◌}
 use mathlib.Core.Path.{◌≡◌, refl, sym, ap, ◌∙◌, subst}
 use mathlib.Core.Bool.{Bool, true, false, ◌&&◌, ◌||◌, true≢false}
 use mathlib.Core.Logic.{◌≢◌}
@@ -9,28 +9,30 @@ use native.Mathlib.Omega.{arith}
 use native.Mathlib.Decide.{ℕ_discrete, dec_lt}
 use native.Mathlib.Nat.{add-sub_of_le}
 use lib.Dec.{eqb, leb, ltb}
-use lib.ListN.{length, get_or, take, drop, length-drop, get_or-eq_default}
-use lib.Seq.{length-take-le}
+use lib.ListN.{length, get_or, drop, get_or-eq_default}
+use lib.Seq.{get_or-drop}
 use borrow.Author.Tests.{eqb-true, leb-true, eq-eqb, ne_eqb, le-leb, lt-leb, lt-ltb, le-ltb}
 use Rattle.std.specs.Prelude.{Option, Some, None}
-use Rattle.paper.specs.Tests.{any_below}
+use Rattle.paper.specs.Tests.{any_below, all_below}
 use Rattle.paper.specs.Rows.{Row, Empty, Range, Text, Alt, Seq, Star, Grammar, row, stretch, no_row}
 use Rattle.paper.specs.Compare.{same_byte}
 use Rattle.paper.specs.Decide.{Pattern, Test, fits, some_in, split, own_row, accepts}
 use Rattle.paper.specs.Sheet.{Sheet, letter}
 use Rattle.paper.specs.Opens.{allows, pattern}
 use Rattle.paper.proofs.Tests.{any_intro, any_elim, all_intro, all_elim, and_intro, and_left, and_right, or_false, same_test}
-use Rattle.paper.proofs.Derivation.{at_fits, fits_at, stretch_part}
+use Rattle.paper.proofs.Derivation.{at_fits, fits_at}
 use Rattle.workspace.specs.Spans.{span_at}
 use Rattle.workspace.specs.Bits.{bit, bit_at}
-use Rattle.groundwork.specs.Ground.{Ground, Splits, some_letter, pairs_at, count_at, lengths_at}
+use Rattle.groundwork.specs.declared.ground.Groundwork.{Groundwork}
+use Rattle.groundwork.specs.Laying.{some_letter, no_pair}
+use Rattle.groundwork.specs.Ground.{Ground, Splits}
 use Rattle.workspace.specs.Places.{place_of, places_in}
 use Rattle.workspace.proofs.Places.{places_at}
 use Rattle.sheet_contents.specs.Ranges.{holds_byte}
-use Rattle.chart_cells.specs.Steps.{only, both, paired, parted}
-use Rattle.chart.specs.Cells.{holding, ranged, fitting, splitting, among, passing, can_hold, can_hold_all}
+use Rattle.chart_cells.specs.Steps.{listed, only, both, paired, parted}
+use Rattle.chart.specs.Cells.{holding, ranged, fitting, splitting, among, passing}
 use Rattle.chart_cells.proofs.Splitting.{any_same}
-use Rattle.chart.proofs.Reaching.{accepted_below, word_row, word_first, word_second}
+use Rattle.chart.proofs.Pairing.{accepted_below, pair_read, pair_found}
 
 -- the steps of a cell together
 pub own_parts : (g : Grammar) (pat : Pattern) (acc : Test) (m i q : ℕ) (x : Row)
@@ -113,9 +115,9 @@ module _ (S : Sheet) (places : List (Option ℕ)) (i : ℕ) where
   unknown_range e (Seq a b) = refl
   unknown_range e (Star a) = refl
 
-  pub letter_ranges : (lay : List ℕ) → Ground S lay → get_or places i None ≡ None → (r : ℕ) → r < 256 → bit_at lay 257 r ≡ passing S.grammar (ranged (pattern S (places_in places)) 1 i) r
+  pub letter_ranges : (g : Groundwork) → Ground S g → get_or places i None ≡ None → (r : ℕ) → r < 256 → bit_at g.ranges 0 r ≡ passing S.grammar (ranged (pattern S (places_in places)) 1 i) r
   unfolding passing
-  letter_ranges lay ground l r m = ground.ranges r m ∙ unknown_range l (row S.grammar r)
+  letter_ranges g ground l r m = ground.ranges r m ∙ unknown_range l (row S.grammar r)
 
 -- a range that holds a letter x holds some letter
 pub letter_held : (S : Sheet) (x : ℕ) → letter S x ≡ true → (y : Row) → holding x y ≡ true → some_letter S y ≡ true
@@ -154,34 +156,23 @@ no_holds x = go x (leb 1 x) refl
 
 -- ---- texts
 
-module _ (S : Sheet) (lay : List ℕ) (places : List (Option ℕ)) (ground : Ground S lay) where
-  held : (k b : ℕ) → can_hold lay (get_or places k None) b ≡ pattern S (places_in places) k b
-  unfolding can_hold
-  held k b = go (get_or places k None) refl
-    where
-      go : (x : Option ℕ) → get_or places k None ≡ x → can_hold lay x b ≡ pattern S (places_in places) k b
-      go (Some x) e = sym (known_place S places k x e b)
-      go None e = ground.letters b ∙ sym (unknown_place S places k e b)
+-- a byte of a word that is laid over the places from i on
+held : (S : Sheet) (places : List (Option ℕ)) (i k b : ℕ) → allows S (place_of (get_or (drop i places) k None)) b ≡ pattern S (places_in places) (i + k) b
+unfolding pattern
+held S places i k b = rw (places_at places (i + k), get_or-drop i places k None)
 
-  -- places can hold bytes where these fit
-  word_held : (i : ℕ) (w : List ℕ) → i + length w ≤ length places → can_hold_all lay places i w ≡ fits (pattern S (places_in places)) i w
-  unfolding can_hold_all
-  word_held i w room =
-      same_test _ _
-      (λ e. at_fits (pattern S (places_in places)) i w (λ p l. sym (held (i + p) (get_or w p 0)) ∙ all_elim (length w) _ e p l))
-      (λ e. all_intro (length w) _ (λ p l. held (i + p) (get_or w p 0) ∙ fits_at (pattern S (places_in places)) i w e p l))
-
-  pub text_held : (i off m : ℕ) → off + m ≤ length S.grammar.text → i + m ≤ length places
-      → can_hold_all lay places i (take m (drop off S.grammar.text)) ≡ fits (pattern S (places_in places)) i (stretch 0 S.grammar.text off m)
-  text_held i off m inside room =
-      let l = length-take-le m (drop off S.grammar.text) (rw length-drop (omega arith)) in
-      rw (stretch_part S.grammar.text off m inside) (word_held i (take m (drop off S.grammar.text)) (omega arith))
+-- places can hold bytes where these fit, one by one
+pub fits_all : (S : Sheet) (places : List (Option ℕ)) (i : ℕ) (w : List ℕ) → all_below (length w) (λ k. allows S (place_of (get_or (drop i places) k None)) (get_or w k 0)) ≡ fits (pattern S (places_in places)) i w
+fits_all S places i w =
+    same_test _ _
+    (λ e. at_fits (pattern S (places_in places)) i w (λ p l. sym (held S places i p (get_or w p 0)) ∙ all_elim (length w) _ e p l))
+    (λ e. all_intro (length w) _ (λ p l. held S places i p (get_or w p 0) ∙ fits_at (pattern S (places_in places)) i w e p l))
 
 -- no text row of m bytes
-pub no_text : (S : Sheet) (lay : List ℕ) → Ground S lay → (pat : Pattern) (m i : ℕ) → m ≤ 60 → bit (get_or lay lengths_at 0) m ≢ 1 → (r : ℕ)
+pub no_text : (S : Sheet) (g : Groundwork) → Ground S g → (pat : Pattern) (m i : ℕ) → m ≤ 60 → bit g.lengths m ≢ 1 → (r : ℕ)
     → passing S.grammar (fitting S.grammar.text pat m i) r ≡ false
 unfolding passing fitting
-no_text S lay ground pat m i h ne r = go (row S.grammar r) refl
+no_text S g ground pat m i h ne r = go (row S.grammar r) refl
   where
     go : (x : Row) → row S.grammar r ≡ x → fitting S.grammar.text pat m i x ≡ false
     go Empty p = refl
@@ -202,31 +193,29 @@ unfolding splitting
 split_of acc m i Splits.by_seq e = e
 split_of acc m i Splits.by_star e = e
 
-module _ (S : Sheet) (lay : List ℕ) (ground : Ground S lay) (few : length S.grammar.rows ≤ 256) (pat : Pattern) (ws : List ℕ) (m i : ℕ)
+module _ (S : Sheet) (g : Groundwork) (ground : Ground S g) (few : length S.grammar.rows ≤ 256) (pat : Pattern) (ws : List ℕ) (m i : ℕ)
     (shorter : (k j r : ℕ) → k < m → j + k ≤ i + m → r < 256 → bit_at ws (span_at j k) r ≡ accepts S.grammar pat k j r) where
-  sound : (q : ℕ) → q < 256 → parted lay ws i m (m - 1) q ≡ true → splitting (accepts S.grammar pat) m i q (row S.grammar q) ≡ true
+  sound : (q : ℕ) → q < 256 → parted (listed g) ws i m (m - 1) q ≡ true → splitting (accepts S.grammar pat) m i q (row S.grammar q) ≡ true
   unfolding parted paired only both split
   sound q hq e =
       let acc = accepts S.grammar pat in
-      let z = any_elim (m - 1) (λ j. paired lay ws (span_at i (suc j)) (span_at (i + suc j) (m - suc j)) (get_or lay count_at 0) q) e in
+      let z = any_elim (m - 1) (λ j. paired (listed g) ws (span_at i (suc j)) (span_at (i + suc j) (m - suc j)) (length (listed g)) q) e in
       let j = z.0 in
       let l : z.0 < m - 1 = z.1 in
-      let y = any_elim (get_or lay count_at 0) (λ p. only (get_or lay (pairs_at + p) 0 % 256) (both ws (span_at i (suc j)) (span_at (i + suc j) (m - suc j)) (get_or lay (pairs_at + p) 0)) q) z.2 in
-      let x = get_or lay (pairs_at + y.0) 0 in
-      let w = ground.pairs y.0 y.1 in
-      let a = w.1 in
-      let b = w.2 in
-      let t = and_right (eqb q (x % 256)) (bit_at ws (span_at i (suc j)) (x / 256 % 256) && bit_at ws (span_at (i + suc j) (m - suc j)) (x / 65536)) y.2 in
-      let same : q ≡ w.0 = eqb-true q (x % 256) (and_left (eqb q (x % 256)) _ y.2) ∙ ap (λ v. v % 256) w.6 ∙ word_row w.0 a b w.3 w.4 in
-      let first : x / 256 % 256 ≡ a = ap (λ v. v / 256 % 256) w.6 ∙ word_first w.0 a b w.3 w.4 in
-      let second : x / 65536 ≡ b = ap (λ v. v / 65536) w.6 ∙ word_second w.0 a b w.3 w.4 in
-      let left : acc (suc j) i a ≡ true = sym (shorter (suc j) i a (omega arith) (omega arith) w.4) ∙ (rw first at (and_left (bit_at ws (span_at i (suc j)) (x / 256 % 256)) _ t)) in
-      let right : acc (m - suc j) (i + suc j) b ≡ true =
-      sym (shorter (m - suc j) (i + suc j) b (omega arith) (omega arith) w.5) ∙ (rw second at (and_right (bit_at ws (span_at i (suc j)) (x / 256 % 256)) _ t)) in
-      split_of acc m i (subst (λ v. Splits v (row S.grammar v) a b) (sym same) w.7)
-      (any_intro (m - 1) (λ k. acc (suc k) i a && acc (m - suc k) (i + suc k) b) j l (and_intro left right))
+      let y =
+      any_elim (length (listed g))
+      (λ p. only (get_or (listed g) p no_pair).row (both ws (span_at i (suc j)) (span_at (i + suc j) (m - suc j)) (get_or (listed g) p no_pair)) q) z.2 in
+      let x = get_or (listed g) y.0 no_pair in
+      let w = pair_read S g ground y.0 y.1 in
+      let t = and_right (eqb q x.row) (bit_at ws (span_at i (suc j)) x.left && bit_at ws (span_at (i + suc j) (m - suc j)) x.right) y.2 in
+      let same : q ≡ x.row = eqb-true q x.row (and_left (eqb q x.row) _ y.2) in
+      let left : acc (suc j) i x.left ≡ true = sym (shorter (suc j) i x.left (omega arith) (omega arith) w.left) ∙ and_left (bit_at ws (span_at i (suc j)) x.left) _ t in
+      let right : acc (m - suc j) (i + suc j) x.right ≡ true =
+      sym (shorter (m - suc j) (i + suc j) x.right (omega arith) (omega arith) w.right) ∙ and_right (bit_at ws (span_at i (suc j)) x.left) _ t in
+      split_of acc m i (subst (λ v. Splits v (row S.grammar v) x.left x.right) (sym same) w.splits)
+      (any_intro (m - 1) (λ k. acc (suc k) i x.left && acc (m - suc k) (i + suc k) x.right) j l (and_intro left right))
 
-  from_split : (q a b : ℕ) → q < 256 → Splits q (row S.grammar q) a b → split (accepts S.grammar pat) a b m i ≡ true → parted lay ws i m (m - 1) q ≡ true
+  from_split : (q a b : ℕ) → q < 256 → Splits q (row S.grammar q) a b → split (accepts S.grammar pat) a b m i ≡ true → parted (listed g) ws i m (m - 1) q ≡ true
   unfolding parted paired only both split
   from_split q a b hq s e =
       let acc = accepts S.grammar pat in
@@ -237,22 +226,19 @@ module _ (S : Sheet) (lay : List ℕ) (ground : Ground S lay) (few : length S.gr
       let right = and_right (acc (suc j) i a) (acc (m - suc j) (i + suc j) b) z.2 in
       let ha : a < 256 = omega (arith, accepted_below S.grammar pat (suc j) i a left) in
       let hb : b < 256 = omega (arith, accepted_below S.grammar pat (m - suc j) (i + suc j) b right) in
-      let w = ground.all q a b s in
-      let x = get_or lay (pairs_at + w.0) 0 in
-      let same : x % 256 ≡ q = ap (λ v. v % 256) w.2 ∙ word_row q a b hq ha in
-      let first : x / 256 % 256 ≡ a = ap (λ v. v / 256 % 256) w.2 ∙ word_first q a b hq ha in
-      let second : x / 65536 ≡ b = ap (λ v. v / 65536) w.2 ∙ word_second q a b hq ha in
-      let in_left : bit_at ws (span_at i (suc j)) (x / 256 % 256) ≡ true = rw first (shorter (suc j) i a (omega arith) (omega arith) ha ∙ left) in
-      let in_right : bit_at ws (span_at (i + suc j) (m - suc j)) (x / 65536) ≡ true = rw second (shorter (m - suc j) (i + suc j) b (omega arith) (omega arith) hb ∙ right) in
-      any_intro (m - 1) (λ k. paired lay ws (span_at i (suc k)) (span_at (i + suc k) (m - suc k)) (get_or lay count_at 0) q) j l
-      (any_intro (get_or lay count_at 0) (λ p. only (get_or lay (pairs_at + p) 0 % 256) (both ws (span_at i (suc j)) (span_at (i + suc j) (m - suc j)) (get_or lay (pairs_at + p) 0)) q) w.0 w.1
-      (and_intro (eq-eqb q (x % 256) (sym same)) (and_intro in_left in_right)))
+      let w = pair_found S g ground q a b s in
+      let in_left : bit_at ws (span_at i (suc j)) a ≡ true = shorter (suc j) i a (omega arith) (omega arith) ha ∙ left in
+      let in_right : bit_at ws (span_at (i + suc j) (m - suc j)) b ≡ true = shorter (m - suc j) (i + suc j) b (omega arith) (omega arith) hb ∙ right in
+      any_intro (m - 1) (λ k. paired (listed g) ws (span_at i (suc k)) (span_at (i + suc k) (m - suc k)) (length (listed g)) q) j l
+      (any_intro (length (listed g))
+      (λ p. only (get_or (listed g) p no_pair).row (both ws (span_at i (suc j)) (span_at (i + suc j) (m - suc j)) (get_or (listed g) p no_pair)) q) w.0 w.1
+      (rw w.2 (and_intro (eq-eqb q q refl) (and_intro in_left in_right))))
 
-  pub splits_found : (q : ℕ) → q < 256 → parted lay ws i m (m - 1) q ≡ splitting (accepts S.grammar pat) m i q (row S.grammar q)
+  pub splits_found : (q : ℕ) → q < 256 → parted (listed g) ws i m (m - 1) q ≡ splitting (accepts S.grammar pat) m i q (row S.grammar q)
   unfolding splitting
   splits_found q hq = same_test _ _ (sound q hq) (go (row S.grammar q) refl)
     where
-      go : (x : Row) → row S.grammar q ≡ x → splitting (accepts S.grammar pat) m i q x ≡ true → parted lay ws i m (m - 1) q ≡ true
+      go : (x : Row) → row S.grammar q ≡ x → splitting (accepts S.grammar pat) m i q x ≡ true → parted (listed g) ws i m (m - 1) q ≡ true
       go Empty p e = absurd (true≢false (sym e))
       go (Range lo hi) p e = absurd (true≢false (sym e))
       go (Text off len) p e = absurd (true≢false (sym e))

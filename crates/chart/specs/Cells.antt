@@ -1,25 +1,14 @@
 -- A cell: what each row does by itself with the m places from i on, by the row's kind; and the table as it fills.
-use Rattle.std.specs.Prelude.{ℕ, ◌+◌, ◌<◌, ◌≤◌, ◌≡◌, Bool, false, ◌&&◌, Option, Some, None, List, eqb, ltb, length, get_or}
-use Rattle.paper.specs.Tests.{all_below}
+use Rattle.std.specs.Prelude.{ℕ, ◌+◌, ◌<◌, ◌≤◌, ◌≡◌, Bool, false, ◌&&◌, Option, List, eqb, ltb, length}
 use Rattle.paper.specs.Rows.{Row, Empty, Range, Text, Alt, Seq, Star, Grammar, row, stretch}
 use Rattle.paper.specs.Decide.{Pattern, Test, fits, some_in, split, accepts}
-use Rattle.paper.specs.Sheet.{sheet_of, grammar_of}
+use Rattle.paper.specs.Sheet.{Sheet, sheet_of, grammar_of, letter}
 use Rattle.paper.specs.Opens.{pattern}
-use Rattle.sheet_trailer.specs.declared.Table.{Table}
-use Rattle.sheet_trailer.specs.Tables.{TableOf}
 use Rattle.sheet_contents.specs.Ranges.{holds_byte}
-use Rattle.workspace.specs.Within.{Within}
 use Rattle.workspace.specs.Spans.{span_at}
 use Rattle.workspace.specs.Bits.{bit_at, none_at}
 use Rattle.workspace.specs.Places.{places_in}
-use Rattle.groundwork.specs.Lent.{Lent}
 use Rattle.chart_cells.specs.Steps.{Kept}
-
--- what the chart's functions are handed: what every trial is lent, where the rows lie, and the places of a term
-pub record Charting (s : List ℕ) (rows : Table) (places : List (Option ℕ)) (lay work : List ℕ) : Type 0 where
-  pub lent : Lent s lay work
-  pub table : TableOf s 2 rows
-  pub short : length places ≤ 60
 
 -- the bytes that the places allow
 abbrev pub allowed : List ℕ → List (Option ℕ) → Pattern
@@ -29,9 +18,9 @@ allowed s places = pattern (sheet_of s) (places_in places)
 unfoldable pub holding : ℕ → Row → Bool
 holding x r = holds_byte r x
 
--- the byte x is a letter, and no range holds one
-unfoldable pub no_range : List ℕ → ℕ → Bool
-no_range lay x = none_at lay 257 && bit_at lay 258 x
+-- the byte x is a letter, and the ranges that hold one are none
+unfoldable pub no_range : Sheet → List ℕ → ℕ → Bool
+no_range s ranges x = none_at ranges 0 && letter s x
 
 -- a range, of one byte, with a byte that is allowed at place i
 unfoldable pub ranged : Pattern → (m i : ℕ) → Row → Bool
@@ -68,24 +57,15 @@ among g f n r = ltb r n && f (row g r)
 unfoldable pub passing : Grammar → (Row → Bool) → ℕ → Bool
 passing g f r = f (row g r)
 
--- the place can hold the byte b
-unfoldable pub can_hold : List ℕ → Option ℕ → ℕ → Bool
-can_hold lay (Some x) b = eqb b x
-can_hold lay None b = bit_at lay 258 b
-
--- the places from i on can hold the bytes of a part of the text
-unfoldable pub can_hold_all : List ℕ → List (Option ℕ) → ℕ → List ℕ → Bool
-can_hold_all lay places i part = all_below (length part) (λ k. can_hold lay (get_or places (i + k) None) (get_or part k 0))
-
 -- ---- the table
 
 -- what the bits of a sheet's chart are
 abbrev pub derivable : List ℕ → List (Option ℕ) → Test
 derivable s places = accepts (grammar_of s) (allowed s places)
 
--- what the bits of the empty spans are, by the groundwork
+-- what the bits of the empty spans are, by the groundwork's set of the rows that derive the empty word
 unfoldable pub emptied : List ℕ → Test
-emptied lay m i r = bit_at lay 256 r
+emptied empty m i r = bit_at empty 0 r
 
 -- the bits of the span of m places from i on are right, and no other span has changed
 pub record Cell (acc : Test) (m i : ℕ) (old new : List ℕ) : Type 0 where
@@ -97,12 +77,6 @@ pub record Filled (acc : Test) (n M I : ℕ) (work : List ℕ) : Type 0 where
   pub shorter : (m i r : ℕ) → m < M → i + m ≤ n → r < 256 → bit_at work (span_at i m) r ≡ acc m i r
   pub here : (i r : ℕ) → i < I → i + M ≤ n → r < 256 → bit_at work (span_at i M) r ≡ acc M i r
 
--- a level of the table, or all of it, is filled and nothing past the table has changed
-pub record Grown (acc : Test) (n M : ℕ) (old new : List ℕ) : Type 0 where
-  pub filled : Filled acc n M 0 new
-  pub within : Within old new
-
 -- THE PROMISE: each span's bits are the rows that derive it
-pub record Charted (s : List ℕ) (places : List (Option ℕ)) (old new : List ℕ) : Type 0 where
-  pub within : Within old new
-  pub bits : (m i r : ℕ) → i + m ≤ length places → r < 256 → bit_at new (span_at i m) r ≡ derivable s places m i r
+pub record Charted (s : List ℕ) (places : List (Option ℕ)) (work : List ℕ) : Type 0 where
+  pub bits : (m i r : ℕ) → i + m ≤ length places → r < 256 → bit_at work (span_at i m) r ≡ derivable s places m i r

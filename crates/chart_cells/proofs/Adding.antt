@@ -4,49 +4,22 @@ use Prim.Native.Nat.{ℕ, ◌+◌, ◌*◌, ◌≤◌, ◌<◌}
 use mathlib.Core.Path.{◌≡◌, refl, sym, ◌∙◌}
 use mathlib.Core.Bool.{Bool, true, false, ◌&&◌, ◌||◌, and-false}
 use mathlib.Core.List.{List}
-use native.Mathlib.Omega.{arith}
 use native.Mathlib.Decide.{ℕ_discrete}
 use lib.Dec.{eqb, ltb}
 use lib.ListN.{length}
 use borrow.Author.Tests.{eq-eqb, ne_eqb}
-use Rattle.paper.specs.Answers.{words}
 use Rattle.paper.proofs.Tests.{or_assoc, or_false, or_right}
-use Rattle.workspace.specs.Bits.{bit_at, set_bit, put_bit, wiped, copied, joined}
-use Rattle.workspace.proofs.Bits.{
-  length_set_bit,
-  set_bit_same,
-  set_bit_other,
-  set_bit_apart,
-  drop_set_bit,
-  length_wiped,
-  wiped_apart,
-  drop_wiped,
-  length_copied,
-  copied_apart,
-  drop_copied,
-  length_joined,
-  joined_bit,
-  joined_apart,
-  drop_joined,
-}
+use Rattle.workspace.specs.Bits.{bit_at, set_bit, put_bit, joined}
+use Rattle.workspace.proofs.Bits.{set_bit_same, set_bit_other, set_bit_apart, joined_bit, joined_apart}
 use Rattle.workspace.specs.Where.{put_below}
-use Rattle.workspace.proofs.Where.{length_put_below, put_below_bit, put_below_apart, drop_put_below}
+use Rattle.workspace.proofs.Where.{put_below_bit, put_below_apart}
 use Rattle.chart_cells.specs.Steps.{Kept, Adds, only}
 
--- the words of a span lie among those of the workspace
-pub in_words : (sp : ℕ) → sp < 1891 → 4 * sp + 4 ≤ words
-unfolding words
-in_words sp h = omega arith
-
 pub kept_none : (sp : ℕ) (ws : List ℕ) → Kept sp ws ws
-kept_none sp ws = record { long = refl; apart = λ t r ne. refl; rest = refl }
+kept_none sp ws t r ne = refl
 
 pub kept_then : (sp : ℕ) (a b c : List ℕ) → Kept sp a b → Kept sp b c → Kept sp a c
-kept_then sp a b c x y = record {
-  long = y.long ∙ x.long;
-  apart = λ t r ne. y.apart t r ne ∙ x.apart t r ne;
-  rest = y.rest ∙ x.rest;
-}
+kept_then sp a b c x y t r ne = y t r ne ∙ x t r ne
 
 -- nothing passes: nothing is done
 pub only_off : (q r : ℕ) → only q false r ≡ false
@@ -70,39 +43,14 @@ module _ (sp : ℕ) (P Q : ℕ → Bool) where
 
 -- ---- the table's operations
 
-module _ (ws : List ℕ) (sp : ℕ) (l : sp < 1891) where
-  pub kept_wiped : Kept sp ws (wiped ws sp)
-  kept_wiped = record { long = length_wiped ws sp; apart = λ t r ne. wiped_apart ws sp t r ne; rest = drop_wiped ws sp words (in_words sp l) }
-
-  module _ (from : List ℕ) (q : ℕ) where
-    pub kept_copied : Kept sp ws (copied ws sp from q)
-    kept_copied = record {
-      long = length_copied ws sp from q;
-      apart = λ t r ne. copied_apart ws sp from q t r ne;
-      rest = drop_copied ws sp from q words (in_words sp l);
-    }
-
-    pub kept_joined : Kept sp ws (joined ws sp from q)
-    kept_joined = record {
-      long = length_joined ws sp from q;
-      apart = λ t r ne. joined_apart ws sp from q t r ne;
-      rest = drop_joined ws sp from q words (in_words sp l);
-    }
-
-    pub adds_joined : 4 * sp + 4 ≤ length ws → Adds sp (bit_at from q) ws (joined ws sp from q)
-    adds_joined room = record { kept = kept_joined; bits = λ r h. joined_bit ws sp from q room r }
+module _ (ws : List ℕ) (sp : ℕ) where
+  pub adds_joined : (from : List ℕ) (q : ℕ) → 4 * sp + 4 ≤ length ws → Adds sp (bit_at from q) ws (joined ws sp from q)
+  adds_joined from q room = record { kept = joined_apart ws sp from q; bits = λ r h. joined_bit ws sp from q room r }
 
   module _ (q : ℕ) (h : q < 256) where
-    kept_set : Kept sp ws (set_bit ws sp q)
-    kept_set = record {
-      long = length_set_bit ws sp q;
-      apart = λ t r ne. set_bit_apart ws sp q t r ne h;
-      rest = drop_set_bit ws sp q words (in_words sp l) h;
-    }
-
     adds_set : 4 * sp + 4 ≤ length ws → Adds sp (only q true) ws (set_bit ws sp q)
     unfolding only
-    adds_set room = record { kept = kept_set; bits = λ r m. go r (ℕ_discrete r q) }
+    adds_set room = record { kept = λ t r ne. set_bit_apart ws sp q t r ne h; bits = λ r m. go r (ℕ_discrete r q) }
       where
         go : (r : ℕ) → Dec (r ≡ q) → bit_at (set_bit ws sp q) sp r ≡ (bit_at ws sp r || (eqb r q && true))
         go r (yes e) = rw (eq-eqb r q e) (rw e (set_bit_same ws sp q room h) ∙ sym (or_right (bit_at ws sp r) true refl))
@@ -116,10 +64,6 @@ module _ (ws : List ℕ) (sp : ℕ) (l : sp < 1891) where
   -- the rows below n that pass a test
   pub adds_below : (test : ℕ → Bool) (n : ℕ) → 4 * sp + 4 ≤ length ws → n ≤ 256 → Adds sp (λ r. ltb r n && test r) ws (put_below test ws sp n)
   adds_below test n room few = record {
-    kept = record {
-      long = length_put_below test ws sp n;
-      apart = λ t r ne. put_below_apart test ws sp n few t r ne;
-      rest = drop_put_below test ws sp n few words (in_words sp l);
-    };
+    kept = λ t r ne. put_below_apart test ws sp n few t r ne;
     bits = λ r h. put_below_bit test ws sp n room few r;
   }

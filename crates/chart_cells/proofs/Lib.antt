@@ -1,3 +1,4 @@
 pub mod Adding
 pub mod Splitting
 pub mod Carrying
+pub mod Grounding

@@ -1,6 +1,6 @@
 -- The loops over the pairs and over the splits, a turn each.
 -- Assumes nothing.
-use Prim.Native.Nat.{ℕ, zero, suc, ◌+◌, ◌-◌, ◌/◌, ◌%◌, ◌≤◌, ◌<◌}
+use Prim.Native.Nat.{ℕ, zero, suc, ◌+◌, ◌-◌, ◌≤◌, ◌<◌}
 use mathlib.Core.Path.{◌≡◌, sym, ap, ◌∙◌, subst}
 use mathlib.Core.Logic.{◌≢◌}
 use mathlib.Core.Bool.{Bool, true, false, ◌||◌, or_comm, and-false}
@@ -8,19 +8,20 @@ use mathlib.Core.List.{List}
 use native.Mathlib.Omega.{arith}
 use native.Mathlib.Numerals.{add-one}
 use native.Mathlib.Nat.{not-suc-le-zero}
-use lib.ListN.{get_or}
+use lib.ListN.{length, get_or}
 use Rattle.paper.specs.Tests.{any_below}
 use Rattle.paper.proofs.Tests.{any_suc, any_none, any_intro, any_elim, same_test}
 use Rattle.workspace.specs.Spans.{tri, span_at}
 use Rattle.workspace.specs.Bits.{bit_at, none_at}
 use Rattle.workspace.proofs.Bits.{none_bit}
 use Rattle.workspace.proofs.Spans.{span_inj}
-use Rattle.groundwork.specs.Ground.{pairs_at, count_at}
+use Rattle.groundwork.specs.declared.splits.Pair.{Pair}
+use Rattle.groundwork.specs.Laying.{no_pair}
 use Rattle.chart_cells.specs.Steps.{Kept, Adds, only, both, paired, parted}
 use Rattle.chart_cells.proofs.Adding.{only_off, adds_none, adds_then}
 
 -- one number more, at the end
-pub any_more : (n : ℕ) (f : ℕ → Bool) → (any_below n f || f n) ≡ any_below (n + 1) f
+any_more : (n : ℕ) (f : ℕ → Bool) → (any_below n f || f n) ≡ any_below (n + 1) f
 any_more n f = rw (add-one n, any_suc n f) (or_comm (any_below n f) (f n))
 
 -- tests that agree below n
@@ -37,48 +38,48 @@ any_fails (suc n) f h = rw (any_suc n f, h n (omega arith)) (any_fails n f (λ k
 
 -- ---- the pairs at one split
 
-module _ (lay : List ℕ) (left right : ℕ) where
+module _ (ps : List Pair) (left right : ℕ) where
   -- spans that are kept give the same
-  pub both_kept : (sp : ℕ) (old now : List ℕ) → Kept sp old now → left ≢ sp → right ≢ sp → (x : ℕ) → both now left right x ≡ both old left right x
+  both_kept : (sp : ℕ) (old now : List ℕ) → Kept sp old now → left ≢ sp → right ≢ sp → (p : Pair) → both now left right p ≡ both old left right p
   unfolding both
-  both_kept sp old now k l r x = rw (k.apart left (x / 256 % 256) l, k.apart right (x / 65536) r)
+  both_kept sp old now k l r p = rw (k left p.left l, k right p.right r)
 
-  pub paired_kept : (sp : ℕ) (old now : List ℕ) → Kept sp old now → left ≢ sp → right ≢ sp → (n r : ℕ) → paired lay now left right n r ≡ paired lay old left right n r
+  paired_kept : (sp : ℕ) (old now : List ℕ) → Kept sp old now → left ≢ sp → right ≢ sp → (n r : ℕ) → paired ps now left right n r ≡ paired ps old left right n r
   unfolding paired
   paired_kept sp old now k l r n q =
-      any_same n _ _ (λ j h. ap (λ b. only (get_or lay (pairs_at + j) 0 % 256) b q) (both_kept sp old now k l r (get_or lay (pairs_at + j) 0)))
+      any_same n _ _ (λ j h. ap (λ b. only (get_or ps j no_pair).row b q) (both_kept sp old now k l r (get_or ps j no_pair)))
 
-  pub paired_none : (ws : List ℕ) (r : ℕ) → paired lay ws left right 0 r ≡ false
+  pub paired_none : (ws : List ℕ) (r : ℕ) → paired ps ws left right 0 r ≡ false
   unfolding paired
   paired_none ws r = any_none _
 
-  pub paired_more : (ws : List ℕ) (j r : ℕ) → (paired lay ws left right j r || only (get_or lay (pairs_at + j) 0 % 256) (both ws left right (get_or lay (pairs_at + j) 0)) r) ≡ paired lay ws left right (j + 1) r
+  paired_more : (ws : List ℕ) (j r : ℕ) → (paired ps ws left right j r || only (get_or ps j no_pair).row (both ws left right (get_or ps j no_pair)) r) ≡ paired ps ws left right (j + 1) r
   unfolding paired
-  paired_more ws j r = any_more j (λ p. only (get_or lay (pairs_at + p) 0 % 256) (both ws left right (get_or lay (pairs_at + p) 0)) r)
+  paired_more ws j r = any_more j (λ p. only (get_or ps p no_pair).row (both ws left right (get_or ps p no_pair)) r)
 
   -- a turn
-  pub pairs_turn : (sp j : ℕ) (old now next : List ℕ) → left ≢ sp → right ≢ sp → Adds sp (paired lay old left right j) old now
-      → (on : Bool) → on ≡ both now left right (get_or lay (pairs_at + j) 0) → Adds sp (only (get_or lay (pairs_at + j) 0 % 256) on) now next
-      → Adds sp (paired lay old left right (j + 1)) old next
+  pub pairs_turn : (sp j : ℕ) (old now next : List ℕ) → left ≢ sp → right ≢ sp → Adds sp (paired ps old left right j) old now
+      → (on : Bool) → on ≡ both now left right (get_or ps j no_pair) → Adds sp (only (get_or ps j no_pair).row on) now next
+      → Adds sp (paired ps old left right (j + 1)) old next
   pairs_turn sp j old now next l r x on e y =
-      let x0 = get_or lay (pairs_at + j) 0 in
-      adds_then sp (paired lay old left right j) (only (x0 % 256) on) (paired lay old left right (j + 1)) old now next x y
-      (λ q h. ap (λ b. paired lay old left right j q || only (x0 % 256) b q) (e ∙ both_kept sp old now x.kept l r x0) ∙ paired_more old j q)
+      let x0 = get_or ps j no_pair in
+      adds_then sp (paired ps old left right j) (only x0.row on) (paired ps old left right (j + 1)) old now next x y
+      (λ q h. ap (λ b. paired ps old left right j q || only x0.row b q) (e ∙ both_kept sp old now x.kept l r x0) ∙ paired_more old j q)
 
   -- a span with no row: no pair
-  none_left : (ws : List ℕ) → ((r : ℕ) → bit_at ws left r ≡ false) → (n r : ℕ) → paired lay ws left right n r ≡ false
+  none_left : (ws : List ℕ) → ((r : ℕ) → bit_at ws left r ≡ false) → (n r : ℕ) → paired ps ws left right n r ≡ false
   unfolding paired both
-  none_left ws h n r = any_fails n _ (λ j l. rw (h (get_or lay (pairs_at + j) 0 / 256 % 256)) (only_off _ r))
+  none_left ws h n r = any_fails n _ (λ j l. rw (h (get_or ps j no_pair).left) (only_off _ r))
 
-  none_right : (ws : List ℕ) → ((r : ℕ) → bit_at ws right r ≡ false) → (n r : ℕ) → paired lay ws left right n r ≡ false
+  none_right : (ws : List ℕ) → ((r : ℕ) → bit_at ws right r ≡ false) → (n r : ℕ) → paired ps ws left right n r ≡ false
   unfolding paired both
-  none_right ws h n r = any_fails n _ (λ j l. rw (h (get_or lay (pairs_at + j) 0 / 65536), and-false (bit_at ws left (get_or lay (pairs_at + j) 0 / 256 % 256))) (only_off _ r))
+  none_right ws h n r = any_fails n _ (λ j l. rw (h (get_or ps j no_pair).right, and-false (bit_at ws left (get_or ps j no_pair).left)) (only_off _ r))
 
-  pub over_left : (sp n : ℕ) (ws : List ℕ) → none_at ws left ≡ true → Adds sp (paired lay ws left right n) ws ws
-  over_left sp n ws e = adds_none sp (paired lay ws left right n) ws (none_left ws (none_bit ws left e) n)
+  pub over_left : (sp n : ℕ) (ws : List ℕ) → none_at ws left ≡ true → Adds sp (paired ps ws left right n) ws ws
+  over_left sp n ws e = adds_none sp (paired ps ws left right n) ws (none_left ws (none_bit ws left e) n)
 
-  pub over_right : (sp n : ℕ) (ws : List ℕ) → none_at ws right ≡ true → Adds sp (paired lay ws left right n) ws ws
-  over_right sp n ws e = adds_none sp (paired lay ws left right n) ws (none_right ws (none_bit ws right e) n)
+  pub over_right : (sp n : ℕ) (ws : List ℕ) → none_at ws right ≡ true → Adds sp (paired ps ws left right n) ws ws
+  over_right sp n ws e = adds_none sp (paired ps ws left right n) ws (none_right ws (none_bit ws right e) n)
 
 -- ---- the splits of a span
 
@@ -110,46 +111,46 @@ left_apart i m k h e = let z = span_inj i k i m e in omega (arith, z.1)
 right_apart : (i m k : ℕ) → 0 < k → span_at i m + k ≢ span_at i m
 right_apart i m k h e = omega arith
 
-module _ (lay : List ℕ) (i m : ℕ) where
-  pub parted_none : (ws : List ℕ) (r : ℕ) → parted lay ws i m 0 r ≡ false
+module _ (ps : List Pair) (i m : ℕ) where
+  pub parted_none : (ws : List ℕ) (r : ℕ) → parted ps ws i m 0 r ≡ false
   unfolding parted
   parted_none ws r = any_none _
 
-  parted_more : (ws : List ℕ) (j r : ℕ) → (parted lay ws i m j r || paired lay ws (span_at i (suc j)) (span_at (i + suc j) (m - suc j)) (get_or lay count_at 0) r) ≡ parted lay ws i m (j + 1) r
+  parted_more : (ws : List ℕ) (j r : ℕ) → (parted ps ws i m j r || paired ps ws (span_at i (suc j)) (span_at (i + suc j) (m - suc j)) (length ps) r) ≡ parted ps ws i m (j + 1) r
   unfolding parted
-  parted_more ws j r = any_more j (λ k. paired lay ws (span_at i (suc k)) (span_at (i + suc k) (m - suc k)) (get_or lay count_at 0) r)
+  parted_more ws j r = any_more j (λ k. paired ps ws (span_at i (suc k)) (span_at (i + suc k) (m - suc k)) (length ps) r)
 
   -- a turn, the numbers of the spans being known
-  turn_at : (k : ℕ) (old now next : List ℕ) → 0 < k → k < m → Adds (span_at i m) (parted lay old i m (k - 1)) old now
-      → Adds (span_at i m) (paired lay now (span_at i k) (span_at i m + k) (get_or lay count_at 0)) now next
-      → Adds (span_at i m) (parted lay old i m (k + 1 - 1)) old next
+  turn_at : (k : ℕ) (old now next : List ℕ) → 0 < k → k < m → Adds (span_at i m) (parted ps old i m (k - 1)) old now
+      → Adds (span_at i m) (paired ps now (span_at i k) (span_at i m + k) (length ps)) now next
+      → Adds (span_at i m) (parted ps old i m (k + 1 - 1)) old next
   turn_at zero old now next h l x y = absurd (not-suc-le-zero h)
   turn_at (suc j) old now next h l x y =
-      subst (λ n. Adds (span_at i m) (parted lay old i m n) old next) (omega arith)
-      (adds_then (span_at i m) (parted lay old i m j) (paired lay now (span_at i (suc j)) (span_at i m + suc j) (get_or lay count_at 0)) (parted lay old i m (j + 1)) old now next
-      (subst (λ n. Adds (span_at i m) (parted lay old i m n) old now) (omega arith) x) y
-      (λ r z. ap (λ b. parted lay old i m j r || b) (same r) ∙ parted_more old j r))
+      subst (λ n. Adds (span_at i m) (parted ps old i m n) old next) (omega arith)
+      (adds_then (span_at i m) (parted ps old i m j) (paired ps now (span_at i (suc j)) (span_at i m + suc j) (length ps)) (parted ps old i m (j + 1)) old now next
+      (subst (λ n. Adds (span_at i m) (parted ps old i m n) old now) (omega arith) x) y
+      (λ r z. ap (λ b. parted ps old i m j r || b) (same r) ∙ parted_more old j r))
     where
-      same : (r : ℕ) → paired lay now (span_at i (suc j)) (span_at i m + suc j) (get_or lay count_at 0) r ≡ paired lay old (span_at i (suc j)) (span_at (i + suc j) (m - suc j)) (get_or lay count_at 0) r
+      same : (r : ℕ) → paired ps now (span_at i (suc j)) (span_at i m + suc j) (length ps) r ≡ paired ps old (span_at i (suc j)) (span_at (i + suc j) (m - suc j)) (length ps) r
       same r =
-          paired_kept lay (span_at i (suc j)) (span_at i m + suc j) (span_at i m) old now x.kept (left_apart i m (suc j) l) (right_apart i m (suc j) h) (get_or lay count_at 0) r
-          ∙ ap (λ s. paired lay old (span_at i (suc j)) s (get_or lay count_at 0) r) (right_is i m (suc j) (omega arith))
+          paired_kept ps (span_at i (suc j)) (span_at i m + suc j) (span_at i m) old now x.kept (left_apart i m (suc j) l) (right_apart i m (suc j) h) (length ps) r
+          ∙ ap (λ s. paired ps old (span_at i (suc j)) s (length ps) r) (right_is i m (suc j) (omega arith))
 
   pub split_turn : (sp left right e : ℕ) (old now next : List ℕ) → sp ≡ span_at i m → left ≡ span_at i (e - i) → right ≡ sp + (e - i) → i < e → e < i + m
-      → Adds sp (parted lay old i m (e - i - 1)) old now → Adds sp (paired lay now left right (get_or lay count_at 0)) now next → Adds sp (parted lay old i m (e + 1 - i - 1)) old next
+      → Adds sp (parted ps old i m (e - i - 1)) old now → Adds sp (paired ps now left right (length ps)) now next → Adds sp (parted ps old i m (e + 1 - i - 1)) old next
   split_turn sp left right e old now next p q t h l x y =
       let n : e - i + 1 - 1 ≡ e + 1 - i - 1 = omega arith in
-      subst (λ s. Adds s (parted lay old i m (e + 1 - i - 1)) old next) (sym p)
+      subst (λ s. Adds s (parted ps old i m (e + 1 - i - 1)) old next) (sym p)
       (rw (sym n)
       (turn_at (e - i) old now next (omega arith) (omega arith)
-      (subst (λ s. Adds s (parted lay old i m (e - i - 1)) old now) p x)
-      (subst (λ s. Adds s (paired lay now (span_at i (e - i)) (s + (e - i)) (get_or lay count_at 0)) now next) p
-      (subst (λ v. Adds sp (paired lay now (span_at i (e - i)) v (get_or lay count_at 0)) now next) t
-      (subst (λ u. Adds sp (paired lay now u right (get_or lay count_at 0)) now next) q y)))))
+      (subst (λ s. Adds s (parted ps old i m (e - i - 1)) old now) p x)
+      (subst (λ s. Adds s (paired ps now (span_at i (e - i)) (s + (e - i)) (length ps)) now next) p
+      (subst (λ v. Adds sp (paired ps now (span_at i (e - i)) v (length ps)) now next) t
+      (subst (λ u. Adds sp (paired ps now u right (length ps)) now next) q y)))))
 
   -- no pairs: no splits
-  pub no_pairs : (sp : ℕ) (ws : List ℕ) → get_or lay count_at 0 ≡ 0 → (n : ℕ) → Adds sp (parted lay ws i m n) ws ws
+  pub no_pairs : (sp : ℕ) (ws : List ℕ) → length ps ≡ 0 → (n : ℕ) → Adds sp (parted ps ws i m n) ws ws
   unfolding parted
   no_pairs sp ws e n =
-      adds_none sp (parted lay ws i m n) ws
-      (λ r. any_fails n _ (λ j l. rw e (paired_none lay (span_at i (suc j)) (span_at (i + suc j) (m - suc j)) ws r)))
+      adds_none sp (parted ps ws i m n) ws
+      (λ r. any_fails n _ (λ j l. rw e (paired_none ps (span_at i (suc j)) (span_at (i + suc j) (m - suc j)) ws r)))

@@ -7,10 +7,9 @@ ghost use Rattle.paper.specs.Editions.{ToSecond, ToFirst, from, to, zeros, in_ed
 ghost use Rattle.paper.specs.Promises.{Moves};
 ghost use Rattle.numbers.specs.Put.{Put};
 ghost use Rattle.sheet.specs.Told.{made};
-ghost use Rattle.sheet.specs.Good.{Good};
 ghost use Rattle.editions.specs.Puts.{ending, moving, Puts};
 
-use sheet::{Fault, Takes};
+use sheet::{Fault, Sheet, Takes};
 use sheet_trailer::{mark, trailer_size};
 
 // The new bytes of edition e at o, all zero: the first edition has none.
@@ -36,27 +35,27 @@ fn put_ending(out: &mut [u8], o: usize, total: usize, e: usize) -> usize
 
 // The sheet in edition e at the start of the space.
 #[tactic(auto, using(crate::proofs::Moved::moved_length, crate::proofs::Moved::zeros_length), unfolding(paper::specs::Trailer::base))]
-fn put_sheet(s: &[u8], e: usize, out: &mut [u8])
-    requires { Good s.now × (1 ≤ e) × (e ≤ 2) × (length (in_edition e s.now) ≤ length out.old) }
-    ensures { out.new ≡ written (in_edition e s.now) out.old }
+fn put_sheet(sheet: &Sheet, e: usize, out: &mut [u8])
+    requires { (1 ≤ e) × (e ≤ 2) × (length (in_edition e sheet.now.bytes.now) ≤ length out.old) }
+    ensures { out.new ≡ written (in_edition e sheet.now.bytes.now) out.old }
 {
-    let at = sheet_trailer::base(s);
-    let p = numbers::put_bytes(out, 0, &s[..at + 24]);
+    let at = sheet.trailer().base();
+    let p = numbers::put_bytes(out, 0, &sheet.bytes[..at + 24]);
     let z = put_zeros(out, p, e);
     put_ending(out, z, at + trailer_size(e), e);
 }
 
 // The sheet in edition e and its length, where there is room.
 #[tactic(auto, using(crate::proofs::Answers::puts_refused, crate::proofs::Answers::puts_written, crate::proofs::Moved::moved_length), unfolding(paper::specs::Trailer::base))]
-fn put(s: &[u8], e: usize, out: &mut [u8]) -> Result<usize, Fault>
-    requires { Good s.now × (1 ≤ e) × (e ≤ 2) }
-    ensures { Puts e s.now out.old result out.new }
+fn put(sheet: &Sheet, e: usize, out: &mut [u8]) -> Result<usize, Fault>
+    requires { (1 ≤ e) × (e ≤ 2) }
+    ensures { Puts e sheet.now.bytes.now out.old result out.new }
 {
-    let total = sheet_trailer::base(s) + trailer_size(e);
+    let total = sheet.trailer().base() + trailer_size(e);
     if out.len() < total {
         return Err(Fault::Space);
     }
-    put_sheet(s, e, out);
+    put_sheet(sheet, e, out);
     Ok(total)
 }
 
@@ -70,11 +69,11 @@ fn to_edition(sheet: &[u8], given: usize, wanted: usize, out: &mut [u8]) -> Resu
         last: given,
         bytes: sheet::MOST,
     };
-    sheet::first_fault(sheet, takes)?;
-    if !sheet_trailer::no_rule(sheet) {
+    let accepted = Sheet::read(sheet, takes)?;
+    if !accepted.trailer().no_rule() {
         return Err(Fault::Rule);
     }
-    put(sheet, wanted, out)
+    put(&accepted, wanted, out)
 }
 
 // A `PRM1` sheet as a `PRM2` sheet, all four new bytes zero, at the start of the space lent.

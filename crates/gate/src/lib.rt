@@ -9,19 +9,18 @@ ghost use Rattle.gate.specs.Number.{number_of};
 pub use answer::{Refusal, number};
 
 // Whether the list accepts the word, with the text: on any list, text, word and workspace.
-#[tactic(auto, using(list::proofs::Formed::right_trailer), unfolding(paper::specs::Answers::gate_says, paper::specs::Answers::gate_leaves, paper::specs::Answers::words))]
+#[tactic(auto, unfolding(paper::specs::Answers::gate_says, paper::specs::Answers::gate_leaves, paper::specs::Answers::words, paper::specs::Answers::zeroed))]
 pub fn gate(list: &[u8], text: &[u8], word: &[u8], work: &mut [u64]) -> Result<bool, Refusal>
     ensures { Gates list.now text.now word.now work.old (number_of result) work.new }
 {
-    if !list::well_formed(list, text.len()) {
+    let Some(trailer) = list::formed_trailer(list, text.len()) else {
         return Err(Refusal::Malformed);
-    }
-    let n = list::fields::trailer_of(list).n;
-    if word.len() != n {
+    };
+    if word.len() != trailer.n {
         return Err(Refusal::Length);
     }
-    if work.len() < paper::WORDS {
+    let Some(work) = work.first_chunk_mut::<{ paper::WORDS }>() else {
         return Err(Refusal::Workspace);
-    }
-    Ok(reading::read(list, text, word, work))
+    };
+    Ok(reading::read(list, trailer, text, word, work))
 }

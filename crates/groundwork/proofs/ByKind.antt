@@ -4,17 +4,14 @@ use Prim.Native.Nat.{ℕ, ◌+◌, ◌-◌, ◌*◌, ◌%◌, ◌^◌, ◌≤◌
 use mathlib.Core.Path.{◌≡◌, refl, sym, ap, ◌∙◌}
 use mathlib.Core.Logic.{◌⊎◌, inl, inr}
 use mathlib.Core.Bool.{true, false}
-use mathlib.Core.List.{List}
 use native.Mathlib.Nat.{one-mul}
 use native.Mathlib.Numerals.{add-one}
 use native.Mathlib.Omega.{arith}
 use native.Mathlib.Decide.{ℕ_discrete}
-use Rattle.std.specs.Prelude.{Some, None}
+use Rattle.std.specs.Prelude.{Some}
 use lib.Bits.{bit_or}
 use lib.Dec.{lit<}
-use lib.ListN.{length, get_or, set}
 use lib.Pow.{shl_exact}
-use lib.Seq.{get_or-set_same}
 use Rattle.paper.specs.Tests.{any_below}
 use Rattle.paper.specs.Rows.{Row, Empty, Range, Text, Alt, Seq, Star}
 use Rattle.paper.specs.Sheet.{Sheet, letter}
@@ -22,9 +19,9 @@ use Rattle.paper.proofs.Sound.{SoundRow}
 use Rattle.paper.proofs.Tests.{any_none, any_intro, any_nowhere}
 use Rattle.workspace.specs.Bits.{bit}
 use Rattle.workspace.proofs.Words.{mark_same, mark_other}
-use Rattle.groundwork.specs.Ground.{pairs_at, pair_word, pair_of, Splits, some_letter}
-use Rattle.groundwork.specs.Laying.{letter_from, Below, PairOf, LengthTold}
-use Rattle.groundwork.proofs.Frame.{below_refl, below_set}
+use Rattle.groundwork.specs.declared.splits.Pair.{Pair}
+use Rattle.groundwork.specs.Laying.{letter_from, some_letter, pair, pair_of, LengthTold}
+use Rattle.groundwork.specs.Ground.{Splits, PairOf}
 
 -- ---- a range that holds a letter
 
@@ -51,56 +48,28 @@ pub splits_which : {q : ℕ} {r : Row} {a b : ℕ} → Splits q r a b → (r ≡
 splits_which Splits.by_seq = inl refl
 splits_which Splits.by_star = inr (refl, refl)
 
-seq_only : {q a b : ℕ} (c d : ℕ) → Splits q (Seq a b) c d → (c ≡ a) × (d ≡ b)
-seq_only {a = a} {b = b} c d h = go (splits_which h)
-  where
-    go : {q : ℕ} → (Seq a b ≡ Seq c d) ⊎ ((Seq a b ≡ Star c) × (d ≡ q)) → (c ≡ a) × (d ≡ b)
-    go (inl e) = (cc, cc)
-    go (inr e) = let p = e.0 in cc
+pub splits_pair : {q : ℕ} {r : Row} {a b : ℕ} → Splits q r a b → pair_of q r ≡ Some (pair q a b)
+splits_pair Splits.by_seq = refl
+splits_pair Splits.by_star = refl
 
-star_only : {q a : ℕ} (c d : ℕ) → Splits q (Star a) c d → (c ≡ a) × (d ≡ q)
-star_only {q} {a = a} c d h = go (splits_which h)
-  where
-    go : (Star a ≡ Seq c d) ⊎ ((Star a ≡ Star c) × (d ≡ q)) → (c ≡ a) × (d ≡ q)
-    go (inl e) = cc
-    go (inr e) = let p = e.0 in (cc, e.1)
+pub pair_row : (q : ℕ) (p : Pair) (r : Row) → pair_of q r ≡ Some p → p.row ≡ q
+pair_row q p Empty e = cc
+pair_row q p (Range lo hi) e = cc
+pair_row q p (Text off len) e = cc
+pair_row q p (Alt a b) e = cc
+pair_row q p (Seq a b) e = let z : pair q a b ≡ p = cc in rw (← z)
+pair_row q p (Star a) e = let z : pair q a q ≡ p = cc in rw (← z)
 
--- row q, given as a row, has had its turn: its pair, if it splits, is word j of the pairs, and the next word is m
-pub record Paired (q : ℕ) (r : Row) (j m : ℕ) (old now : List ℕ) : Type 0 where
-  pub below : Below (pairs_at + j) old now
-  pub least : j ≤ m
-  pub most : m ≤ j + 1
-  pub pair : j < m → PairOf q r (get_or now (pairs_at + j) 0)
-  pub all : (a b : ℕ) → Splits q r a b → (j < m) × (get_or now (pairs_at + j) 0 ≡ pair_word q a b)
-
-module _ (ws : List ℕ) (q j a b x : ℕ) (hq : q < 256) (ha : a < 256) (hb : b < 256) (room : 1036 + j < length ws) (is : x ≡ pair_word q a b) where
-  paired_by : {r : Row} → Splits q r a b → ((c d : ℕ) → Splits q r c d → (c ≡ a) × (d ≡ b)) → Paired q r j (j + 1) ws (set ws (1036 + j) x)
-  paired_by y only =
-      let here : get_or (set ws (1036 + j) x) (1036 + j) 0 ≡ pair_word q a b = get_or-set_same ws (1036 + j) x 0 room ∙ is in
-      record {
-        below = below_set ws (1036 + j) x (omega arith);
-        least = omega arith;
-        most = omega arith;
-        pair = λ l. (a, b, hq, ha, hb, here, y);
-        all = λ c d x. let z = only c d x in (omega arith, here ∙ sym (rw (z.0, z.1)));
-      }
-
--- the row splits: its pair is put in
-pub paired_some : (ws : List ℕ) (q j x : ℕ) (r : Row) → q < 256 → SoundRow 1024 256 r → 1036 + j < length ws → Some x ≡ pair_of q r → Paired q r j (j + 1) ws (set ws (1036 + j) x)
-paired_some ws q j x Empty hq h room e = cc
-paired_some ws q j x (Range lo hi) hq h room e = cc
-paired_some ws q j x (Text off len) hq h room e = cc
-paired_some ws q j x (Alt a b) hq h room e = cc
-paired_some ws q j x (Seq a b) hq h room e = paired_by ws q j a b x hq h.0 h.1 room (cc) {r = Seq a b} Splits.by_seq (λ c d y. seq_only c d y)
-paired_some ws q j x (Star a) hq h room e = paired_by ws q j a q x hq h hq room (cc) {r = Star a} Splits.by_star (λ c d y. star_only c d y)
-
--- it does not
-none_only : {q : ℕ} {r : Row} {a b : ℕ} → Splits q r a b → None ≡ pair_of q r → ⊥
-none_only Splits.by_seq e = cc
-none_only Splits.by_star e = cc
-
-pub paired_none : (ws : List ℕ) (q j : ℕ) (r : Row) → None ≡ pair_of q r → Paired q r j j ws ws
-paired_none ws q j r e = record { below = below_refl ws; least = omega arith; most = omega arith; pair = λ l. absurd (omega arith); all = λ c d x. absurd (none_only x e) }
+module _ (text n q : ℕ) (few : n ≤ 256) (low : q < 256) where
+  pub pair_splits : (p : Pair) (r : Row) → SoundRow text n r → pair_of q r ≡ Some p → PairOf r p
+  pair_splits p Empty h e = cc
+  pair_splits p (Range lo hi) h e = cc
+  pair_splits p (Text off len) h e = cc
+  pair_splits p (Alt a b) h e = cc
+  pair_splits p (Seq a b) h e =
+      let z : pair q a b ≡ p = cc in rw (← z) (record { row = low; left = omega (arith, h.0); right = omega (arith, h.1); splits = Splits.by_seq })
+  pair_splits p (Star a) h e =
+      let z : pair q a q ≡ p = cc in rw (← z) (record { row = low; left = omega (arith, h); right = low; splits = Splits.by_star })
 
 -- ---- a text row's length
 

@@ -1,3 +1,3 @@
-pub mod Frame
 pub mod ByKind
+pub mod Splitting
 pub mod Laying

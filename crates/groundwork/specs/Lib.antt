@@ -1,3 +1,2 @@
-pub mod Ground
-pub mod Lent
 pub mod Laying
+pub mod Ground

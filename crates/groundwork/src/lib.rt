@@ -1,55 +1,28 @@
 #![tactic(auto)]
 
 // The groundwork of a sheet: what every trial reads and no trial changes.
-ghost use Rattle.std.specs.Prelude.{◌≡◌, ◌+◌, ◌*◌, ◌≤◌, ◌<◌, length};
+mod ground;
+mod splits;
+
+ghost use Rattle.std.specs.Prelude.{◌≡◌, ◌≤◌, ◌<◌, length, take};
 ghost use Rattle.paper.specs.Rows.{Range, row};
 ghost use Rattle.paper.specs.Sheet.{grammar_of, sheet_of};
 ghost use Rattle.paper.proofs.Sound.{SoundRow};
-ghost use Rattle.workspace.specs.Bits.{bit_at};
 ghost use Rattle.sheet_contents.specs.Read.{as_row};
-ghost use Rattle.sheet.specs.Good.{Good};
-ghost use Rattle.rows.specs.Sets.{RowsAt};
-ghost use Rattle.groundwork.specs.Ground.{Ground, some_letter, pair_of};
-ghost use Rattle.groundwork.specs.Laying.{Below, Closures, Ranges, LettersIn, Pairs, LengthTold, Lengths};
+ghost use Rattle.groundwork.specs.Laying.{RangesIn, LengthTold, Lengths, some_letter, pair_of, pairs_below};
 
+pub use ground::Groundwork;
+use sheet::Sheet;
 use sheet_contents::Row;
-use sheet_trailer::Table;
-
-// The entries of four words each, behind those of reach.
-pub const EMPTIES: usize = 256;
-
-pub const RANGES: usize = 257;
-
-pub const LETTERS: usize = 258;
-
-// The words behind the entries: the first pair, the lengths of text rows, and how many pairs there are.
-pub const PAIRS: usize = 1036;
-
-pub const LENGTHS: usize = 1292;
-
-pub const COUNT: usize = 1293;
-
-// The words of a groundwork.
-pub const SIZE: usize = 1294;
-
-// The rows that reach each row, and the rows that derive the empty word.
-fn closures(s: &[u8], t: Table, out: &mut [u64])
-    requires { RowsAt s.now t × (length out.old ≡ SIZE) }
-    ensures { Closures (grammar_of s.now) out.new }
-{
-    let mut empty = [0; 4];
-    rows::nulls(s, t, &mut empty);
-    rows::reach(s, t, &empty, out);
-    workspace::copy(out, EMPTIES, &empty, 0);
-}
+pub use splits::Pair;
 
 // Some byte from low to high is a letter.
-fn letter_in(s: &[u8], low: usize, high: usize) -> bool
-    requires { Good s.now × (low ≤ high) × (high ≤ 255) }
-    ensures { result ≡ some_letter (sheet_of s.now) (Range low high) }
+fn letter_in(sheet: &Sheet, low: usize, high: usize) -> bool
+    requires { (low ≤ high) × (high ≤ 255) }
+    ensures { result ≡ some_letter (sheet_of sheet.now.bytes.now) (Range low high) }
 {
     for b in low..high + 1 {
-        if sheet::is_letter(s, b as u8) {
+        if sheet.is_letter(b as u8) {
             return true;
         }
     }
@@ -57,27 +30,27 @@ fn letter_in(s: &[u8], low: usize, high: usize) -> bool
 }
 
 // Row q is a range that holds a letter.
-fn holds_letter(s: &[u8], t: Table, q: usize) -> bool
-    requires { RowsAt s.now t × (q < t.count) }
-    ensures { result ≡ some_letter (sheet_of s.now) (row (grammar_of s.now) q) }
+fn holds_letter(sheet: &Sheet, q: usize) -> bool
+    requires { q < sheet.now.rows.count }
+    ensures { result ≡ some_letter (sheet_of sheet.now.bytes.now) (row (grammar_of sheet.now.bytes.now) q) }
 {
-    match sheet::row_at(s, t, q) {
-        Row::Range(low, high) => letter_in(s, low, high),
+    match sheet.row(q) {
+        Row::Range(low, high) => letter_in(sheet, low, high),
         Row::Empty | Row::Text(..) | Row::Alt(..) | Row::Seq(..) | Row::Star(_) => false,
     }
 }
 
 // The ranges that hold a letter.
-fn ranges(s: &[u8], t: Table, out: &mut [u64])
-    requires { RowsAt s.now t × (length out.old ≡ SIZE) }
-    ensures { Ranges (sheet_of s.now) (grammar_of s.now) t.count out.new × Below 1028 out.old out.new }
+fn ranges(sheet: &Sheet) -> [u64; 4]
+    ensures { RangesIn (sheet_of sheet.now.bytes.now) result }
 {
-    workspace::wipe(out, RANGES);
-    workspace::put_where(out, RANGES, t.count, |q| holds_letter(s, t, q));
+    let mut ranges = [0; 4];
+    workspace::put_where(&mut ranges, 0, sheet.rows.count, |q| holds_letter(sheet, q));
+    ranges
 }
 
-// The rows a and b into which row q splits, as one word with q; if it splits.
-fn pair(q: usize, r: Row) -> Option<u64>
+// The rows a and b into which row q splits, with q; if it splits.
+fn pair(q: usize, r: Row) -> Option<Pair>
     requires { (q < 256) × SoundRow 1024 256 (as_row r) }
     ensures { result ≡ pair_of q (as_row r) }
 {
@@ -86,22 +59,27 @@ fn pair(q: usize, r: Row) -> Option<u64>
         Row::Star(a) => (a, q),
         Row::Empty | Row::Range(..) | Row::Text(..) | Row::Alt(..) => return None,
     };
-    Some((q + 256 * a + 65536 * b) as u64)
+    Some(Pair {
+        row: q as u8,
+        left: a as u8,
+        right: b as u8,
+    })
 }
 
-// The pairs, one for each row that splits. Their number.
-fn pairs(s: &[u8], t: Table, out: &mut [u64]) -> usize
-    requires { RowsAt s.now t × (length out.old ≡ SIZE) }
-    ensures { Pairs (grammar_of s.now) t.count result out.new × Below 1036 out.old out.new }
+// The pairs, one for each row that splits, and their number.
+#[tactic(auto, using(crate::proofs::Splitting::pairs_few))]
+fn pairs(sheet: &Sheet) -> ([Pair; 256], usize)
+    ensures { (result.1 ≤ 256) × (result.1 ≡ length (pairs_below (grammar_of sheet.now.bytes.now) sheet.now.rows.count)) × (take result.1 result.0 ≡ pairs_below (grammar_of sheet.now.bytes.now) sheet.now.rows.count) }
 {
+    let mut pairs = [Pair::default(); 256];
     let mut j = 0;
-    for q in 0..t.count {
-        if let Some(x) = pair(q, sheet::row_at(s, t, q)) {
-            out[PAIRS + j] = x;
+    for q in 0..sheet.rows.count {
+        if let Some(x) = pair(q, sheet.row(q)) {
+            pairs[j] = x;
             j += 1;
         }
     }
-    j
+    (pairs, j)
 }
 
 // The mask with the length of a text row besides: a term has at most 60 bytes.
@@ -115,35 +93,12 @@ fn tell_length(mask: u64, r: Row) -> u64
 }
 
 // The lengths of the text rows, a bit each.
-fn lengths(s: &[u8], t: Table) -> u64
-    requires { RowsAt s.now t }
-    ensures { Lengths (grammar_of s.now) t.count result }
+fn lengths(sheet: &Sheet) -> u64
+    ensures { Lengths (grammar_of sheet.now.bytes.now) result }
 {
     let mut mask = 0;
-    for q in 0..t.count {
-        mask = tell_length(mask, sheet::row_at(s, t, q));
+    for q in 0..sheet.rows.count {
+        mask = tell_length(mask, sheet.row(q));
     }
     mask
-}
-
-// Whether the byte is a letter.
-pub fn is_letter(lay: &[u64], b: usize) -> bool
-    requires { (b < 256) × (PAIRS ≤ length lay.now) }
-    ensures { result ≡ bit_at lay.now 258 b }
-{
-    workspace::test(lay, LETTERS, b)
-}
-
-// The groundwork of an accepted sheet, whose letters are given.
-pub fn lay(s: &[u8], letters: &[u64], out: &mut [u64])
-    requires { Good s.now × LettersIn (sheet_of s.now) letters.now × (4 ≤ length letters.now) × (length out.old ≡ SIZE) }
-    ensures { Ground (sheet_of s.now) out.new }
-{
-    let t = sheet_trailer::table_of(s, 2);
-    closures(s, t, out);
-    ranges(s, t, out);
-    workspace::copy(out, LETTERS, letters, 0);
-    let j = pairs(s, t, out);
-    out[LENGTHS] = lengths(s, t);
-    out[COUNT] = j as u64;
 }

@@ -17,14 +17,13 @@ use Rattle.workspace.specs.Places.{places_in}
 use Rattle.workspace.specs.Spans.{span_at}
 use Rattle.workspace.specs.Bits.{bit_at}
 use Rattle.chart.specs.Cells.{Charted}
-use Rattle.chart.proofs.Filling.{within_none}
 use Rattle.terms.proofs.Showing.{places_length}
 use Rattle.judge.specs.Charts.{Charts, Left, Meant, Keeps, Asked}
 
 -- ---- a chart, filled and read
 
-pub charts_filled : (s : List ℕ) (places : List (Option ℕ)) (old new : List ℕ) → Charted s places old new → Charts s (places_in places) new
-charts_filled s places old new c =
+pub charts_filled : (s : List ℕ) (places : List (Option ℕ)) (work : List ℕ) → Charted s places work → Charts s (places_in places) work
+charts_filled s places work c =
     let n = places_length places in
     record { bits = λ m i r h k. c.bits m i r (omega arith) k }
 
@@ -59,10 +58,10 @@ module _ (s : List ℕ) (W : List Place) (r : Run) (T : List Place) (laid : T �
 
 module _ (s : List ℕ) (r : Run) (T : List Place) (h : Option Run) (old : List ℕ) where
   pub asked_none : Asked s r T h h old old
-  asked_none = record { within = within_none old; held = inl (refl, refl) }
+  asked_none = record { held = inl (refl, refl) }
 
   pub asked_left : (c : Claim) (after : Option Run) (new : List ℕ) → Left s c r T h after old new → Asked s r T h after old new
-  asked_left (Derived q) after new l = record { within = l.within; held = inr (l.held, l.leaves) }
-  asked_left (Contains a b) after new l = record { within = l.within; held = inl (l.held, l.leaves) }
-  asked_left (Equals a b) after new l = record { within = l.within; held = inl (l.held, l.leaves) }
-  asked_left (ContainsTerm a b) after new l = record { within = l.within; held = inl (l.held, l.leaves) }
+  asked_left (Derived q) after new l = record { held = inr (l.held, l.leaves) }
+  asked_left (Contains a b) after new l = record { held = inl (l.held, l.leaves) }
+  asked_left (Equals a b) after new l = record { held = inl (l.held, l.leaves) }
+  asked_left (ContainsTerm a b) after new l = record { held = inl (l.held, l.leaves) }

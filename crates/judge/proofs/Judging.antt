@@ -17,9 +17,7 @@ use Rattle.paper.specs.Opens.{is_unknown, can_hold, can_fail, can, possible, ope
 use Rattle.paper.proofs.Tests.{at_all_of}
 use Rattle.sheet.specs.Readers.{Told}
 use Rattle.sheet.proofs.Contents.{assertions_length}
-use Rattle.workspace.specs.Within.{Within}
-use Rattle.chart.proofs.Filling.{within_none, within_then}
-use Rattle.terms.specs.declared.Places.{Places}
+use Rattle.terms.specs.declared.places.Places.{Places}
 use Rattle.terms.specs.Shown.{shown, Readable}
 use Rattle.terms.proofs.Joining.{one_fails}
 use Rattle.judge.specs.Charts.{Keeps}
@@ -89,29 +87,27 @@ pub no_assertion : Assertion
 no_assertion = record { claim = Derived 0; denied = false; term = record { first = 0; count = 0 } }
 
 -- the first i assertions are possible, and the workspace holds what it is said to hold
-pub record Upto (s : List ℕ) (v : Places) (i : ℕ) (h : Option code.Run) (start work : List ℕ) : Type 0 where
+pub record Upto (s : List ℕ) (v : Places) (i : ℕ) (h : Option code.Run) (work : List ℕ) : Type 0 where
   pub possible : (j : ℕ) → j < i → possible (sheet_of s) v.len (shown v) (get_or (sheet_of s).assertions j no_assertion) ≡ true
-  pub within : Within start work
   pub keeps : Keeps s (shown v) h work
 
 module _ (s : List ℕ) (v : Places) where
-  pub upto_none : (work : List ℕ) → Upto s v 0 None work work
-  upto_none work = record { possible = λ j l. absurd (omega arith); within = within_none work; keeps = none_held s (shown v) work }
+  pub upto_none : (work : List ℕ) → Upto s v 0 None work
+  upto_none work = record { possible = λ j l. absurd (omega arith); keeps = none_held s (shown v) work }
 
-  pub upto_all : (i : ℕ) (h : Option code.Run) (start work : List ℕ) → Upto s v i h start work → count_of s 4 ≤ i → true ≡ opens_on (sheet_of s) v.len (shown v)
+  pub upto_all : (i : ℕ) (h : Option code.Run) (work : List ℕ) → Upto s v i h work → count_of s 4 ≤ i → true ≡ opens_on (sheet_of s) v.len (shown v)
   unfolding opens_on
-  upto_all i h start work u l =
+  upto_all i h work u l =
       sym (at_all_of (possible (sheet_of s) v.len (shown v)) (sheet_of s).assertions no_assertion (λ k m. u.possible k (omega (arith, assertions_length s, m))))
 
-  module _ (i : ℕ) (h : Option code.Run) (start old new : List ℕ) (u : Upto s v i h start old)
-      (a : Assertion) (here : (d : Assertion) → a ≡ get_or (sheet_of s).assertions i d) (ok : Bool) (after : Option code.Run) (j : Judged s v a ok after old new) where
+  module _ (i : ℕ) (h : Option code.Run) (old new : List ℕ) (u : Upto s v i h old)
+      (a : Assertion) (here : (d : Assertion) → a ≡ get_or (sheet_of s).assertions i d) (ok : Bool) (after : Option code.Run) (j : Judged s v a ok after new) where
     judged_here : possible (sheet_of s) v.len (shown v) (get_or (sheet_of s).assertions i no_assertion) ≡ ok
     judged_here = ap (possible (sheet_of s) v.len (shown v)) (sym (here no_assertion)) ∙ sym j.right
 
-    pub upto_more : ok ≡ true → Upto s v (i + 1) after start new
+    pub upto_more : ok ≡ true → Upto s v (i + 1) after new
     upto_more e = record {
       possible = below_more _ _ u.possible (judged_here ∙ e);
-      within = within_then start old new u.within j.within;
       keeps = j.keeps;
     }
 

@@ -7,7 +7,6 @@ use Rattle.paper.specs.Open.{term_on}
 use Rattle.paper.specs.Opens.{pattern}
 use Rattle.workspace.specs.Spans.{span_at}
 use Rattle.workspace.specs.Bits.{bit_at}
-use Rattle.workspace.specs.Within.{Within}
 use Rattle.sheet_contents.specs.declared.Run.{Run}
 use Rattle.sheet_contents.specs.Read.{as_run}
 
@@ -30,7 +29,6 @@ Leaves s (Equals a b) T old new = new ≡ old
 Leaves s (ContainsTerm a b) T old new = new ≡ old
 
 pub record Left (s : List ℕ) (c : Claim) (r : Run) (T : List Place) (h after : Option Run) (old new : List ℕ) : Type 0 where
-  pub within : Within old new
   pub held : after ≡ after_of h c r
   pub leaves : Leaves s c T old new
 
@@ -44,5 +42,4 @@ pub record Keeps (s : List ℕ) (W : List Place) (h : Option Run) (work : List �
 
 -- once T, this run's term, was asked about: nothing has changed, or its chart is held
 pub record Asked (s : List ℕ) (r : Run) (T : List Place) (h after : Option Run) (old new : List ℕ) : Type 0 where
-  pub within : Within old new
   pub held : ((after ≡ h) × (new ≡ old)) ⊎ ((after ≡ Some r) × Charts s T new)

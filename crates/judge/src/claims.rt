@@ -8,35 +8,30 @@ ghost use Rattle.paper.specs.Decide.{fits};
 ghost use Rattle.paper.specs.Opens.{pattern, can_hold};
 ghost use Rattle.paper.proofs.Sound.{SoundClaim};
 ghost use Rattle.sheet_contents.specs.Read.{as_claim};
-ghost use Rattle.sheet.specs.Good.{Good};
 ghost use Rattle.workspace.specs.Places.{places_in};
-ghost use Rattle.workspace.specs.Within.{Within};
-ghost use Rattle.groundwork.specs.Ground.{Ground};
-ghost use Rattle.groundwork.specs.Lent.{Lent};
-ghost use Rattle.chart.specs.Cells.{Charted};
-ghost use Rattle.terms.specs.Shown.{shown, Sized};
+ghost use Rattle.terms.specs.Shown.{shown};
 ghost use Rattle.judge.specs.Charts.{Charts, Meant, Left};
 
+use groundwork::Groundwork;
 use sheet_contents::{Assertion, Claim, Run};
 use terms::Places;
+use workspace::Workspace;
 
 // The places from i on can hold b bytes of the text from a on.
-fn holds_at(s: &[u8], a: usize, b: usize, places: &[Option<u8>], i: usize, lay: &[u64]) -> bool
-    requires { Good s.now × Ground (sheet_of s.now) lay.now × (a + b ≤ count_of s.now 1) × (i + b ≤ length places.now) }
-    ensures { result ≡ fits (pattern (sheet_of s.now) (places_in places.now)) i (stretch 0 (sheet_of s.now).grammar.text a b) }
+fn holds_at(g: &Groundwork, a: usize, b: usize, places: &[Option<u8>], i: usize) -> bool
+    requires { (a + b ≤ count_of g.now.sheet.now.bytes.now 1) × (i + b ≤ length places.now) }
+    ensures { result ≡ fits (pattern (sheet_of g.now.sheet.now.bytes.now) (places_in places.now)) i (stretch 0 (sheet_of g.now.sheet.now.bytes.now).grammar.text a b) }
 {
-    let text = sheet::text_of(s);
-    let e = a + b;
-    chart::singles::can_hold_all(&text[a..e], places, i, lay)
+    chart::singles::can_hold_all(g, &g.sheet.text[a..a + b], places, i)
 }
 
 // The places can hold them somewhere.
-fn can_contain(s: &[u8], a: usize, b: usize, places: &[Option<u8>], lay: &[u64]) -> bool
-    requires { Good s.now × Ground (sheet_of s.now) lay.now × (a + b ≤ count_of s.now 1) × (length places.now ≤ 60) }
-    ensures { (u : List Place) → result ≡ can_hold (sheet_of s.now) (Contains a b) (places_in places.now) u }
+fn can_contain(g: &Groundwork, a: usize, b: usize, places: &[Option<u8>]) -> bool
+    requires { (a + b ≤ count_of g.now.sheet.now.bytes.now 1) × (length places.now ≤ 60) }
+    ensures { (u : List Place) → result ≡ can_hold (sheet_of g.now.sheet.now.bytes.now) (Contains a b) (places_in places.now) u }
 {
     for end in b..=places.len() {
-        if holds_at(s, a, b, places, end - b, lay) {
+        if holds_at(g, a, b, places, end - b) {
             return true;
         }
     }
@@ -45,20 +40,18 @@ fn can_contain(s: &[u8], a: usize, b: usize, places: &[Option<u8>], lay: &[u64])
 
 // The row derives some filling of a term's places, whose chart is filled unless the workspace holds it.
 fn can_derive(
-    s: &[u8],
+    g: &Groundwork,
     row: usize,
     term: Run,
     places: &[Option<u8>],
     held: &mut Option<Run>,
-    lay: &[u64],
-    work: &mut [u64],
+    work: &mut Workspace,
 ) -> bool
-    requires { Lent s.now lay.now work.old × (row < count_of s.now 2) × (length places.now ≤ 60) × Meant s.now term (places_in places.now) held.old work.old }
-    ensures { ((u : List Place) → result ≡ can_hold (sheet_of s.now) (Derived row) (places_in places.now) u) × Within work.old work.new × Charts s.now (places_in places.now) work.new × (held.new ≡ Some term) }
+    requires { (row < count_of g.now.sheet.now.bytes.now 2) × (length places.now ≤ 60) × Meant g.now.sheet.now.bytes.now term (places_in places.now) held.old work.old }
+    ensures { ((u : List Place) → result ≡ can_hold (sheet_of g.now.sheet.now.bytes.now) (Derived row) (places_in places.now) u) × Charts g.now.sheet.now.bytes.now (places_in places.now) work.new × (held.new ≡ Some term) }
 {
     if *held != Some(term) {
-        let rows = sheet_trailer::table_of(s, 2);
-        chart::fill(s, rows, places, lay, work);
+        chart::fill(g, places, work);
         *held = Some(term);
     }
     chart::derives(places.len(), row, work)
@@ -66,22 +59,21 @@ fn can_derive(
 
 // The assertion's claim can be made to hold of the places of its terms.
 pub fn can_hold(
-    s: &[u8],
+    g: &Groundwork,
     a: Assertion,
     p: &Places,
     q: &Places,
     held: &mut Option<Run>,
-    lay: &[u64],
-    work: &mut [u64],
+    work: &mut Workspace,
 ) -> bool
-    requires { Lent s.now lay.now work.old × SoundClaim (count_of s.now 1) (count_of s.now 2) (count_of s.now 3) (as_claim a.claim) × Sized p.now × Sized q.now × Meant s.now a.term (shown p.now) held.old work.old }
-    ensures { (result ≡ can_hold (sheet_of s.now) (as_claim a.claim) (shown p.now) (shown q.now)) × Left s.now (as_claim a.claim) a.term (shown p.now) held.old held.new work.old work.new }
+    requires { SoundClaim (count_of g.now.sheet.now.bytes.now 1) (count_of g.now.sheet.now.bytes.now 2) (count_of g.now.sheet.now.bytes.now 3) (as_claim a.claim) × Meant g.now.sheet.now.bytes.now a.term (shown p.now) held.old work.old }
+    ensures { (result ≡ can_hold (sheet_of g.now.sheet.now.bytes.now) (as_claim a.claim) (shown p.now) (shown q.now)) × Left g.now.sheet.now.bytes.now (as_claim a.claim) a.term (shown p.now) held.old held.new work.old work.new }
 {
     let places = p.places();
     match a.claim {
-        Claim::Derived(row) => can_derive(s, row, a.term, places, held, lay, work),
-        Claim::Contains(x, y) => can_contain(s, x, y, places, lay),
-        Claim::Equals(_, _) => terms::meets::equal(p, q, lay),
-        Claim::ContainsTerm(_, _) => terms::meets::contains(p, q, lay),
+        Claim::Derived(row) => can_derive(g, row, a.term, places, held, work),
+        Claim::Contains(x, y) => can_contain(g, x, y, places),
+        Claim::Equals(_, _) => terms::meets::equal(g, p, q),
+        Claim::ContainsTerm(_, _) => terms::meets::contains(g, p, q),
     }
 }

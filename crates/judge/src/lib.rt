@@ -4,77 +4,68 @@
 pub mod claims;
 
 ghost use Rattle.std.specs.Prelude.{◌≡◌, ◌≤◌, length};
-ghost use Rattle.paper.specs.Trailer.{longest};
 ghost use Rattle.paper.specs.Sheet.{sheet_of};
 ghost use Rattle.paper.specs.Opens.{can, opens_on};
 ghost use Rattle.paper.specs.Opens as paper;
-ghost use Rattle.sheet_trailer.specs.Tables.{TableOf};
 ghost use Rattle.sheet_contents.specs.Read.{as_assertion};
 ghost use Rattle.sheet.specs.Readers.{Told};
-ghost use Rattle.workspace.specs.Within.{Within};
-ghost use Rattle.groundwork.specs.Lent.{Lent};
-ghost use Rattle.terms.specs.Shown.{shown, Sized};
+ghost use Rattle.terms.specs.Shown.{shown};
 ghost use Rattle.judge.specs.Charts.{Meant, Asked, Keeps};
 ghost use Rattle.judge.specs.Judged.{Judged};
 
+use groundwork::Groundwork;
 use sheet_contents::{Assertion, Run};
-use sheet_trailer::Table;
 use terms::Places;
+use workspace::Workspace;
 
 // The assertion can be met as it is signed, on the places of its terms.
 fn can_be(
-    s: &[u8],
+    g: &Groundwork,
     a: Assertion,
     p: &Places,
     q: &Places,
     held: &mut Option<Run>,
-    lay: &[u64],
-    work: &mut [u64],
+    work: &mut Workspace,
 ) -> bool
-    requires { Lent s.now lay.now work.old × Told s.now (as_assertion a) × Sized p.now × Sized q.now × Meant s.now a.term (shown p.now) held.old work.old }
-    ensures { (result ≡ can (sheet_of s.now) (as_assertion a) (shown p.now) (shown q.now)) × Asked s.now a.term (shown p.now) held.old held.new work.old work.new }
+    requires { Told g.now.sheet.now.bytes.now (as_assertion a) × Meant g.now.sheet.now.bytes.now a.term (shown p.now) held.old work.old }
+    ensures { (result ≡ can (sheet_of g.now.sheet.now.bytes.now) (as_assertion a) (shown p.now) (shown q.now)) × Asked g.now.sheet.now.bytes.now a.term (shown p.now) held.old held.new work.old work.new }
 {
     if a.denied && (terms::meets::some_unknown(p) || terms::meets::some_unknown(q)) {
         return true;
     }
-    claims::can_hold(s, a, p, q, held, lay, work) != a.denied
+    claims::can_hold(g, a, p, q, held, work) != a.denied
 }
 
 // The assertion is possible where v has these places. Assertions over one term share its chart, the dearest thing of a judgement:
 // `held` is the run whose term's chart the workspace holds.
 pub fn possible(
-    s: &[u8],
-    parts: Table,
+    g: &Groundwork,
     a: Assertion,
     v: &Places,
     held: &mut Option<Run>,
-    lay: &[u64],
-    work: &mut [u64],
+    work: &mut Workspace,
 ) -> bool
-    requires { Lent s.now lay.now work.old × TableOf s.now 3 parts × Told s.now (as_assertion a) × Sized v.now × (v.now.len ≤ longest s.now) × Keeps s.now (shown v.now) held.old work.old }
-    ensures { Judged s.now v.now (as_assertion a) result held.new work.old work.new }
+    requires { Told g.now.sheet.now.bytes.now (as_assertion a) × (v.now.len ≤ g.now.sheet.now.longest) × Keeps g.now.sheet.now.bytes.now (shown v.now) held.old work.old }
+    ensures { Judged g.now.sheet.now.bytes.now v.now (as_assertion a) result held.new work.new }
 {
     let second = sheet_contents::second_run(a.claim);
-    if !terms::inside(s, parts, v.len, a.term) || !terms::inside(s, parts, v.len, second) {
+    if !terms::inside(g.sheet, v.len, a.term) || !terms::inside(g.sheet, v.len, second) {
         return false; // a cut past the end of v is not met
     }
-    let p = terms::term(s, parts, v, a.term);
-    let q = terms::term(s, parts, v, second);
-    can_be(s, a, &p, &q, held, lay, work)
+    let p = terms::term(g.sheet, v, a.term);
+    let q = terms::term(g.sheet, v, second);
+    can_be(g, a, &p, &q, held, work)
 }
 
 // Each assertion is possible where v has these places.
-pub fn opens_on(s: &[u8], v: &Places, lay: &[u64], work: &mut [u64]) -> bool
-    requires { Lent s.now lay.now work.old × Sized v.now × (v.now.len ≤ longest s.now) }
-    ensures { (result ≡ opens_on (sheet_of s.now) v.now.len (shown v.now)) × Within work.old work.new }
+pub fn opens_on(g: &Groundwork, v: &Places, work: &mut Workspace) -> bool
+    requires { v.now.len ≤ g.now.sheet.now.longest }
+    ensures { result ≡ opens_on (sheet_of g.now.sheet.now.bytes.now) v.now.len (shown v.now) }
 {
-    let parts = sheet_trailer::table_of(s, 3);
-    let assertions = sheet_trailer::table_of(s, 4);
     // what the workspace has from an earlier call is of other places
     let mut held = None;
-    for i in 0..assertions.count {
-        let a = sheet::assertion_at(s, assertions, i);
-        if !possible(s, parts, a, v, &mut held, lay, work) {
+    for i in 0..g.sheet.assertions.count {
+        if !possible(g, g.sheet.assertion(i), v, &mut held, work) {
             return false;
         }
     }
@@ -82,10 +73,10 @@ pub fn opens_on(s: &[u8], v: &Places, lay: &[u64], work: &mut [u64]) -> bool
 }
 
 // The prefix is open at n.
-pub fn opens(s: &[u8], prefix: &[u8], n: usize, lay: &[u64], work: &mut [u64]) -> bool
-    requires { Lent s.now lay.now work.old × (length prefix.now ≤ n) × (n ≤ longest s.now) }
-    ensures { (result ≡ paper.opens (sheet_of s.now) n prefix.now) × Within work.old work.new }
+pub fn opens(g: &Groundwork, prefix: &[u8], n: usize, work: &mut Workspace) -> bool
+    requires { (length prefix.now ≤ n) × (n ≤ g.now.sheet.now.longest) }
+    ensures { result ≡ paper.opens (sheet_of g.now.sheet.now.bytes.now) n prefix.now }
 {
     let v = terms::all_of_v(prefix, n);
-    opens_on(s, &v, lay, work)
+    opens_on(g, &v, work)
 }

@@ -1,12 +1,10 @@
 -- What the readers of a cut list hand on.
-use Rattle.std.specs.Prelude.{ℕ, ◌+◌, ◌*◌, ◌<◌, ◌≤◌, ◌≡◌, Bool, List, length}
+use Rattle.std.specs.Prelude.{ℕ, ◌+◌, ◌*◌, ◌<◌, ◌≤◌, ◌≡◌, ◌⊎◌, Bool, List, length, Option, None, Some}
 use Rattle.paper.specs.Bytes.{u8_at, u16_at}
 use Rattle.paper.specs.Cuts.{Opt, Byte, Stretch, Split, Nil}
 use Rattle.paper.specs.Gate.{n_of, rows_of, root_of, trailer_of, option_ok}
 use Rattle.list.specs.declared.fields.Trailer.{Trailer}
 use Rattle.list.specs.declared.fields.Fields.{Fields}
-use Rattle.list.specs.declared.fields.Kind as kind
-use Rattle.list.specs.declared.fields.Kind.TheVariants as by
 use Rattle.list.specs.declared.fields.Opt as read
 use Rattle.list.specs.declared.fields.Opt.TheVariants as case
 
@@ -32,12 +30,13 @@ pub record Fielded (l : List ℕ) (o : ℕ) (f : Fields) : Type 0 where
   pub a_small : f.a < 65536
   pub b_small : f.b < 65536
 
--- the byte of a kind
-abbrev pub byte_of : kind.Kind → ℕ
-byte_of by.Byte = 1
-byte_of by.Stretch = 2
-byte_of by.Split = 3
-byte_of by.Nil = 4
+-- the option of the fields' kind, if there is one
+abbrev pub OptionOf : Fields → Option read.Opt → Type 0
+OptionOf f (Some (case.Byte lo hi)) = (f.kind ≡ 1) × (lo ≡ f.a) × (hi ≡ f.b)
+OptionOf f (Some (case.Stretch off len)) = (f.kind ≡ 2) × (off ≡ f.a) × (len ≡ f.b)
+OptionOf f (Some (case.Split k a b)) = (f.kind ≡ 3) × (k ≡ f.k) × (a ≡ f.a) × (b ≡ f.b)
+OptionOf f (Some case.Nil) = f.kind ≡ 4
+OptionOf f None = (f.kind ≡ 0) ⊎ (4 < f.kind)
 
 -- the paper's option that an option read is
 abbrev pub option_of : read.Opt → Opt

@@ -3,14 +3,14 @@
 // A cut list: the readers of its numbers, and when it is well formed. Positions run along, so that the work is in proportion to the list's length.
 pub mod fields;
 
-ghost use Rattle.std.specs.Prelude.{◌≡◌, ◌&&◌, suc, ◌+◌, ◌*◌, ◌≤◌, ◌<◌, length, eqb, leb, ltb};
+ghost use Rattle.std.specs.Prelude.{◌≡◌, true, false, ◌&&◌, MatchOption, suc, ◌+◌, ◌*◌, ◌≤◌, ◌<◌, length, eqb, leb, ltb};
 ghost use Rattle.paper.specs.Tests.{all_below};
-ghost use Rattle.paper.specs.Gate.{n_of, rows_of, trailer_of, group_at, head_at, head_end, option_fields, option_ok, entry_ok, group_ok, group_begin};
+ghost use Rattle.paper.specs.Gate.{n_of, rows_of, trailer_of, group_at, head_at, head_end, option_fields, option_ok, entry_ok, group_ok, group_begin, well_formed};
 ghost use Rattle.paper.specs.Promises.{Admits};
 ghost use Rattle.std.specs.Bool.{then_some};
 ghost use Rattle.list.specs.Read.{Trailed, option_from};
 
-use crate::fields::{Fields, Kind, Trailer, fields_at, trailer_of, trailer_ok};
+use crate::fields::{Fields, Opt, Trailer, fields_at, trailer_of};
 
 // A list whose trailer is right, and how many bytes its text has.
 #[derive(Clone, Copy)]
@@ -29,11 +29,14 @@ impl<'a> CutList<'a> {
         requires { (f.a < 65536) × (f.b < 65536) }
         ensures { result ≡ option_fields self.now.text self.now.t.rows m f.kind f.k f.a f.b }
     {
-        match Kind::of(f.kind) {
-            Some(Kind::Byte) => m == 1 && f.k == 0 && f.a <= f.b && f.b <= 255,
-            Some(Kind::Stretch) => f.b == m && 1 <= m && f.k == 0 && f.a + f.b <= self.text,
-            Some(Kind::Split) => 0 < f.k && f.k < m && f.a < self.t.rows && f.b < self.t.rows,
-            Some(Kind::Nil) => m == 0 && f.k == 0 && f.a == 0 && f.b == 0,
+        match f.option() {
+            Some(Opt::Byte(low, high)) => m == 1 && f.k == 0 && low <= high && high <= 255,
+            Some(Opt::Stretch(from, len)) => len == m
+                && 1 <= m
+                && f.k == 0
+                && from + len <= self.text,
+            Some(Opt::Split(k, a, b)) => 0 < k && k < m && a < self.t.rows && b < self.t.rows,
+            Some(Opt::Nil) => m == 0 && f.k == 0 && f.a == 0 && f.b == 0,
             None => false,
         }
     }
@@ -99,19 +102,26 @@ impl<'a> CutList<'a> {
     }
 }
 
-// Whether the list is well formed, with a text of so many bytes.
+// The trailer of the list, if it is well formed with a text of so many bytes.
 #[tactic(auto, unfolding(paper::specs::Gate::well_formed))]
-pub fn well_formed(list: &[u8], text: usize) -> bool
-    ensures { Admits list.now text result }
+pub fn formed_trailer(list: &[u8], text: usize) -> Option<Trailer>
+    ensures { MatchOption result (well_formed list.now text ≡ false) (λ t. (well_formed list.now text ≡ true) × Trailed list.now t) }
 {
-    if list.len() < 20 || !trailer_ok(list) {
-        return false;
+    if list.len() < 20 {
+        return None;
     }
-    let t = trailer_of(list);
+    let t = trailer_of(list)?;
     let cut = CutList {
         bytes: list,
         t,
         text,
     };
-    cut.groups().is_some_and(|end| end == t.base)
+    (cut.groups()? == t.base).then_some(t)
+}
+
+// Whether the list is well formed, with a text of so many bytes.
+pub fn well_formed(list: &[u8], text: usize) -> bool
+    ensures { Admits list.now text result }
+{
+    formed_trailer(list, text).is_some()
 }

@@ -5,8 +5,7 @@ use mathlib.Core.Path.{◌≡◌, refl, sym, ap, ◌∙◌}
 use mathlib.Core.List.{List, ◌++◌}
 use native.Mathlib.Omega.{arith}
 use native.Mathlib.Numerals.{add-one}
-use lib.ListN.{length, take}
-use Rattle.std.proofs.lemmas.List.{get_or-take}
+use lib.ListN.{length}
 use borrow.Author.Tests.{eq-eqb, ne_eqb, lt-ltb, le-ltb, le-leb, lt-leb}
 use Rattle.std.specs.Prelude.{Ok, Err}
 use Rattle.paper.specs.Bytes.{u16, u32}
@@ -23,20 +22,13 @@ use Rattle.paper.proofs.Gathered.{gather_length}
 use Rattle.paper.proofs.Encoding.{length_u32, length_list}
 use Rattle.numbers.specs.Put.{Put}
 use Rattle.numbers.proofs.Stores.{put_more, put_same, put_written}
-use Rattle.sheet_trailer.specs.declared.Table.{Table}
-use Rattle.sheet_trailer.specs.Tables.{TableOf}
 use Rattle.sheet.specs.declared.Fault.{Fault}
 use Rattle.sheet.specs.Told.{told, made}
-use Rattle.sheet.proofs.Good.{good}
 use Rattle.sheet.proofs.Telling.{told_err, made_err}
-use Rattle.maker_options.specs.Prepared.{Offsets, JobOf}
+use Rattle.maker_options.specs.Prepared.{Offsets}
 use Rattle.maker.specs.Trailer.{offset_bytes, ending_bytes, trailer_bytes}
 
 -- ---- the trailer, and the whole list
-
--- the first offsets, cut off behind the last one that is known
-pub offsets_front : (g : Grammar) (k : ℕ) (offsets : List ℕ) → Offsets g k offsets → Offsets g k (take k offsets)
-offsets_front g k offsets x = record { each = λ m l. get_or-take k offsets m 0 l ∙ x.each m l }
 
 pub offsets_size : (offsets : List ℕ) (m : ℕ) → length (gather 0 m (offset_bytes offsets)) ≡ 4 * m
 unfolding offset_bytes
@@ -105,8 +97,3 @@ module _ (s : List ℕ) (row n : ℕ) (old : List ℕ) where
 pub written_list : (g : Grammar) (root n rows p end : ℕ) (offsets a b c : List ℕ) → Offsets g (n + 1) offsets → rows ≡ length g.rows → length (cut_list g root n) ≤ length a
     → Put (groups g (n + 1)) 0 a b p → Put (trailer_bytes offsets root rows n (p + (4 * n + 20))) p b c end → c ≡ written (cut_list g root n) a
 written_list g root n rows p end offsets a b c x e h f k = put_written h (put_same (list_is g root n offsets x p rows (omega (arith, f.stop)) e) (put_more f k))
-
--- ---- the job of an accepted sheet
-
-pub job_is : {s : List ℕ} {t : Table} (row n : ℕ) → Accepted s → TableOf s 2 t → row < t.count → n ≤ 60 → JobOf s (record { rows = t; n = n })
-job_is {s = s} row n a e h l = record { rows = record { good = good latest s (omega arith) a; table = e }; some = omega arith; short = l }

@@ -4,14 +4,13 @@
 pub mod bytes;
 
 ghost use Rattle.std.specs.Prelude.{◌+◌, ◌-◌, ◌*◌, ◌≤◌, ◌<◌, length};
-ghost use Rattle.paper.specs.Sheet.{grammar_of};
 ghost use Rattle.paper.specs.Cuts.{splits, own_opts, options, all_bytes, entry, group, groups};
 ghost use Rattle.numbers.specs.Put.{Put};
 ghost use Rattle.sheet_contents.specs.Read.{as_row};
-ghost use Rattle.maker_options.specs.Prepared.{Prepared};
+ghost use Rattle.maker_options.specs.Planned.{grammar};
 
 use bytes::Opt;
-use maker_options::{Job, sizes};
+use maker_options::Plan;
 use sheet_contents::Row;
 
 // The options that part m bytes between the rows a and b, at o.
@@ -41,22 +40,13 @@ fn put_own(list: &mut [u8], o: usize, row: Row, m: usize, q: usize) -> usize
     }
 }
 
-// A place of the list: for row r at length m, at o.
-#[derive(Clone, Copy)]
-pub struct Spot {
-    pub m: usize,
-    pub r: usize,
-    pub o: usize,
-}
-
 // The options of row r at length m, at o.
-fn put_options(s: &[u8], ws: &[u64], list: &mut [u8], j: Job, t: Spot) -> usize
-    requires { Prepared s.now ws.now j × (t.m ≤ j.n) × (t.r < j.rows.count) × (t.o + 8 * length (options (grammar_of s.now) t.m t.r) ≤ length list.old) }
-    ensures { Put (all_bytes (options (grammar_of s.now) t.m t.r)) t.o list.old list.new result }
+fn put_options(list: &mut [u8], o: usize, plan: &Plan, m: usize, r: usize) -> usize
+    requires { (m ≤ plan.now.n) × (r < plan.now.sheet.now.rows.count) × (o + 8 * length (options (grammar plan.now) m r) ≤ length list.old) }
+    ensures { Put (all_bytes (options (grammar plan.now) m r)) o list.old list.new result }
 {
-    let Spot { m, r, o } = t;
     if m == 0 {
-        return if workspace::test(ws, 256, r) {
+        return if plan.is_nullable(r) {
             bytes::put_option(list, o, Opt::Nil)
         } else {
             o
@@ -64,43 +54,43 @@ fn put_options(s: &[u8], ws: &[u64], list: &mut [u8], j: Job, t: Spot) -> usize
     }
     let mut end = o;
     let mut p = 0;
-    while let Some(q) = sizes::next(ws, r, m, p, j.rows.count) {
-        end = put_own(list, end, sheet::row_at(s, j.rows, q), m, q);
+    while let Some(q) = plan.next(m, r, p) {
+        end = put_own(list, end, plan.sheet.row(q), m, q);
         p = q + 1;
     }
     end
 }
 
 // The head and the options of row r at length m, at o.
-fn put_entry(s: &[u8], ws: &[u64], list: &mut [u8], j: Job, t: Spot) -> usize
-    requires { Prepared s.now ws.now j × (t.m ≤ j.n) × (t.r < j.rows.count) × (t.o + length (entry (grammar_of s.now) t.m t.r) ≤ length list.old) }
-    ensures { Put (entry (grammar_of s.now) t.m t.r) t.o list.old list.new result }
+fn put_entry(list: &mut [u8], o: usize, plan: &Plan, m: usize, r: usize) -> usize
+    requires { (m ≤ plan.now.n) × (r < plan.now.sheet.now.rows.count) × (o + length (entry (grammar plan.now) m r) ≤ length list.old) }
+    ensures { Put (entry (grammar plan.now) m r) o list.old list.new result }
 {
-    let count = sizes::option_count(s, ws, j, t.m, t.r);
-    let o = bytes::put_head(list, t.o, t.r, t.m as u8, count);
-    put_options(s, ws, list, j, Spot { m: t.m, r: t.r, o })
+    let count = plan.option_count(m, r);
+    let p = bytes::put_head(list, o, r, m as u8, count);
+    put_options(list, p, plan, m, r)
 }
 
 // The group of length m, at o.
-fn put_group(s: &[u8], ws: &[u64], list: &mut [u8], j: Job, m: usize, o: usize) -> usize
-    requires { Prepared s.now ws.now j × (m ≤ j.n) × (o + length (group (grammar_of s.now) m) ≤ length list.old) }
-    ensures { Put (group (grammar_of s.now) m) o list.old list.new result }
+fn put_group(list: &mut [u8], o: usize, plan: &Plan, m: usize) -> usize
+    requires { (m ≤ plan.now.n) × (o + length (group (grammar plan.now) m) ≤ length list.old) }
+    ensures { Put (group (grammar plan.now) m) o list.old list.new result }
 {
     let mut p = o;
-    for r in 0..j.rows.count {
-        p = put_entry(s, ws, list, j, Spot { m, r, o: p });
+    for r in 0..plan.sheet.rows.count {
+        p = put_entry(list, p, plan, m, r);
     }
     p
 }
 
 // The groups of the lengths 0 to n, from the start on.
-pub fn put_groups(s: &[u8], ws: &[u64], list: &mut [u8], j: Job) -> usize
-    requires { Prepared s.now ws.now j × (length (groups (grammar_of s.now) (j.n + 1)) ≤ length list.old) }
-    ensures { Put (groups (grammar_of s.now) (j.n + 1)) 0 list.old list.new result }
+pub fn put_groups(list: &mut [u8], plan: &Plan) -> usize
+    requires { length (groups (grammar plan.now) (plan.now.n + 1)) ≤ length list.old }
+    ensures { Put (groups (grammar plan.now) (plan.now.n + 1)) 0 list.old list.new result }
 {
     let mut p = 0;
-    for m in 0..j.n + 1 {
-        p = put_group(s, ws, list, j, m, p);
+    for m in 0..=plan.n {
+        p = put_group(list, p, plan, m);
     }
     p
 }

@@ -37,22 +37,20 @@ module _ (f : ℕ → Bool) (e n : ℕ) (old mid now : List ℕ) (room : 4 * e +
 
 -- ---- each row's entry
 
-pub turned_more : (from : List ℕ) (n k : ℕ) {ws mid now : List ℕ} → k < n → n ≤ 256 → Turned from n k ws → mid ≡ wiped ws k → now ≡ put_below (across from k) mid k n → Turned from n (k + 1) now
-turned_more from n k {ws = ws} h few x clean made =
+pub turned_more : (from : List ℕ) (n k : ℕ) {ws mid now : List ℕ} → 4 * k + 4 ≤ length ws → n ≤ 256 → Turned from n k ws → mid ≡ wiped ws k → now ≡ put_below (across from k) mid k n → Turned from n (k + 1) now
+turned_more from n k room few x clean made =
     let f = across from k in
-    let room : 4 * k + 4 ≤ length ws = omega (arith, x.long) in record {
-      long = entry_length f k n _ _ _ room few clean made ∙ x.long;
+    record {
       each = λ r q l u. lt_or_le r k (λ v. entry_apart f k n _ _ _ room few clean made r q (λ d. omega arith) ∙ x.each r q v u) (λ v. let d : r ≡ k = omega arith in rw d (entry_here f k n _ _ _ room few clean made q u));
     }
 
 -- ---- each length's entry
 
-pub given_more : (g : Grammar) (k rows : ℕ) {old ws mid now : List ℕ} → 1 ≤ k → k ≤ 60 → rows ≤ 256 → rows ≡ length g.rows → Given g k old ws
+pub given_more : (g : Grammar) (k rows : ℕ) {old ws mid now : List ℕ} → 1 ≤ k → 4 * (256 + k) + 4 ≤ length ws → rows ≤ 256 → rows ≡ length g.rows → Given g k old ws
     → mid ≡ wiped ws (256 + k) → now ≡ put_below (giving g k) mid (256 + k) rows → Given g (k + 1) old now
-given_more g k rows {ws = ws} h high few e x clean made =
+given_more g k rows h room few e x clean made =
     let f = giving g k in
-    let room : 4 * (256 + k) + 4 ≤ length ws = omega (arith, x.long) in record {
-      long = entry_length f (256 + k) rows _ _ _ room few clean made ∙ x.long;
+    record {
       each = λ m q a b u.
           lt_or_le m k (λ v. entry_apart f (256 + k) rows _ _ _ room few clean made (256 + m) q (λ d. omega arith) ∙ x.each m q a v u)
           (λ v. let d : m ≡ k = omega arith in rw d (entry_here f (256 + k) rows _ _ _ room few clean made q (omega arith)));
@@ -67,10 +65,9 @@ unfolding giving
 giving_is s m q count r x y = rw (← x.same, y q)
 
 pub ready_is : (g : Grammar) (n rows : ℕ) (nulls reach a b c : List ℕ) → rows ≡ length g.rows → rows ≤ 256 → Nulls g nulls → Reached g reach → Turned reach rows rows a
-    → b ≡ copied a 256 nulls 0 → Given g (n + 1) b c → Ready g n c
-ready_is g n rows nulls reach a b c k few x y t e z = record {
-  long = z.long;
+    → 1028 ≤ length a → b ≡ copied a 256 nulls 0 → Given g (n + 1) b c → Ready g n c
+ready_is g n rows nulls reach a b c k few x y t room e z = record {
   reached = λ r q l u. z.kept r q (omega arith) ∙ rw e (copied_apart a 256 nulls 0 r q (λ d. omega arith)) ∙ t.each r q (omega arith) (omega arith) ∙ y.bits q r u;
-  nil = λ r. z.kept 256 r (omega arith) ∙ rw e (copied_bit a 256 nulls 0 (omega (arith, t.long)) r) ∙ x.bits r;
+  nil = λ r. z.kept 256 r (omega arith) ∙ rw e (copied_bit a 256 nulls 0 (omega (arith, room)) r) ∙ x.bits r;
   gives = λ m q l h u. z.each m q l (omega arith) u;
 }

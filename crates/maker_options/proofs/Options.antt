@@ -95,6 +95,6 @@ module _ (g : Grammar) (n : ℕ) (ws : List ℕ) (ready : Ready g n ws) (m r : �
 
 -- ---- length 0
 
-pub options_nil : (g : Grammar) (r : ℕ) (b : Bool) → nullable g r ≡ b → options g 0 r ≡ cond b (Nil ∷ []) []
+pub options_nil : (g : Grammar) (m r : ℕ) {b : Bool} → m ≡ 0 → b ≡ nullable g r → options g m r ≡ cond b (Nil ∷ []) []
 unfolding options
-options_nil g r b e = rw e
+options_nil g m r z e = rw (z, e)

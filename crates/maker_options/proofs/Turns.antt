@@ -1,9 +1,8 @@
 -- The rows and the lengths in rising order: what one turn of a loop over them adds to a row's options, to a group, to the groups.
 -- Assumes nothing.
 use Prim.Native.Nat.{ℕ, zero, suc, ◌+◌, ◌≤◌, ◌<◌}
-use mathlib.Core.Path.{◌≡◌, refl, sym, ap, ◌∙◌}
-use mathlib.Core.Bool.{cond}
-use mathlib.Core.List.{List, [], ◌∷◌, ◌++◌}
+use mathlib.Core.Path.{◌≡◌, refl, ap, ◌∙◌}
+use mathlib.Core.List.{List, ◌++◌}
 use Rattle.std.specs.Prelude.{Some, None}
 use native.Mathlib.Omega.{arith}
 use native.Mathlib.Numerals.{add-one}
@@ -14,24 +13,24 @@ use Rattle.std.proofs.lemmas.List.Sums.{sum_by-cons}
 use lib.Seq.{get_or-set_same, get_or-set_other}
 use Rattle.paper.specs.Tests.{gather}
 use Rattle.paper.specs.Rows.{Grammar}
-use Rattle.paper.specs.Sheet.{grammar_of}
-use Rattle.paper.specs.Cuts.{Nil, own_opts, options, entry, group, groups}
+use Rattle.paper.specs.Cuts.{own_opts, options, entry, group, groups}
 use Rattle.paper.proofs.Gathered.{gather_suc, gather_rises}
 use Rattle.paper.proofs.Encoding.{length_groups}
 use Rattle.paper.proofs.Sound.{Sound}
 use Rattle.paper.proofs.Obeys.{options_few, group_most, groups_most}
-use Rattle.workspace.specs.Bits.{bit_at}
 use Rattle.workspace.specs.Scan.{First, FirstOf}
 use Rattle.workspace.proofs.Spans.{lt_or_le}
 use Rattle.sheet_contents.specs.declared.Row.{Row}
 use Rattle.sheet_contents.specs.Read.{as_row}
+use Rattle.sheet.specs.declared.accepted.Sheet.{Sheet}
 use Rattle.sheet.specs.Readers.{RowRead}
 use Rattle.sheet.proofs.Rows.{rows_few, rows_all}
 use Rattle.sheet.proofs.Soundness.{good_sound}
-use Rattle.maker_options.specs.declared.Job.{Job}
+use Rattle.maker_options.specs.declared.plan.Plan.{Plan}
 use Rattle.maker_options.specs.Giving.{from_below}
-use Rattle.maker_options.specs.Prepared.{JobOf, Prepared, chosen, Offsets}
-use Rattle.maker_options.proofs.Options.{below_rises, below_next, below_more, below_done, options_nil}
+use Rattle.maker_options.specs.Prepared.{chosen, Offsets}
+use Rattle.maker_options.specs.Planned.{grammar}
+use Rattle.maker_options.proofs.Options.{below_rises, below_next, below_more, below_done}
 
 -- ---- entries and groups
 
@@ -73,68 +72,61 @@ pub entries_sum : (g : Grammar) (m n : ℕ) → n ≡ length g.rows → sum_by (
 unfolding group
 entries_sum g m n e = rw e (gather_sum (entry g m) 0 (length g.rows))
 
--- ---- a job's rows
+-- ---- an accepted sheet's rows, and a plan's
 
-module _ {s : List ℕ} {j : Job} (p : JobOf s j) where
-  pub job_rows : j.rows.count ≡ length (grammar_of s).rows
-  job_rows = rows_all p.rows.table
+pub sheet_few : (sheet : Sheet) → sheet.rows.count ≤ 256
+sheet_few sheet = rows_few sheet.good sheet.rows_at
 
-  pub job_few : j.rows.count ≤ 256
-  job_few = rows_few p.rows.good p.rows.table
+module _ (p : Plan) where
+  pub plan_rows : p.sheet.now.rows.count ≡ length (grammar p).rows
+  plan_rows = rows_all p.sheet.now.rows_at
 
-  job_sound : Sound (grammar_of s)
-  job_sound = good_sound s p.rows.good (omega (arith, p.some, p.rows.table.counts))
+  pub plan_few : p.sheet.now.rows.count ≤ 256
+  plan_few = sheet_few p.sheet.now
 
-module _ {s ws : List ℕ} {j : Job} (p : Prepared s ws j) where
-  sound : Sound (grammar_of s)
-  sound = job_sound p.job
+  sound : Sound (grammar p)
+  sound = good_sound _ p.sheet.now.good (omega (arith, p.inside, p.sheet.now.rows_at.counts))
 
-  pub options_bound : (m r : ℕ) → m ≤ j.n → length (options (grammar_of s) m r) ≤ 15104
-  options_bound m r h = options_few (grammar_of s) sound m r (omega (arith, p.job.short))
+  pub options_bound : (m r : ℕ) → m ≤ p.n → length (options (grammar p) m r) ≤ 15104
+  options_bound m r h = options_few _ sound m r (omega (arith, p.short))
 
-  pub group_bound : (m : ℕ) → m ≤ j.n → length (group (grammar_of s) m) ≤ 30935040
-  group_bound m h = group_most (grammar_of s) sound m (omega (arith, p.job.short))
+  pub group_bound : (m : ℕ) → m ≤ p.n → length (group (grammar p) m) ≤ 30935040
+  group_bound m h = group_most _ sound m (omega (arith, p.short))
 
-  pub groups_bound : length (groups (grammar_of s) (j.n + 1)) ≤ 1887037440
-  groups_bound = groups_most (grammar_of s) sound (j.n + 1) (omega (arith, p.job.short))
+  pub groups_bound : length (groups (grammar p) (p.n + 1)) ≤ 1887037440
+  groups_bound = groups_most _ sound (p.n + 1) (omega (arith, p.short))
 
-  pub entry_within : (m r : ℕ) → r < j.rows.count → length (gather 0 r (entry (grammar_of s) m)) + length (entry (grammar_of s) m r) ≤ length (group (grammar_of s) m)
-  entry_within m r h = entry_inside (grammar_of s) m r (omega (arith, job_rows p.job))
+  pub entry_within : (m r : ℕ) → r < p.sheet.now.rows.count
+      → length (gather 0 r (entry (grammar p) m)) + length (entry (grammar p) m r) ≤ length (group (grammar p) m)
+  entry_within m r h = entry_inside _ m r (omega (arith, plan_rows))
 
-  module _ (m r : ℕ) where
-    -- ---- length 0
+  -- the rows that are met, at a length of at least 1
+  module _ (m r : ℕ) (low : 1 ≤ m) (high : m ≤ p.n) (inside : r < p.sheet.now.rows.count) where
+    rows_in : r < length (grammar p).rows
+    rows_in = omega (arith, plan_rows)
 
-    pub nil_options : m ≡ 0 → options (grammar_of s) m r ≡ cond (bit_at ws 256 r) (Nil ∷ []) []
-    nil_options z = rw z (options_nil (grammar_of s) r (bit_at ws 256 r) (sym (p.ready.nil r)))
+    passed : (a b : ℕ) → First (chosen p.table r m) a p.sheet.now.rows.count b → from_below (grammar p) m r b ≡ from_below (grammar p) m r a
+    passed a b h = below_next (grammar p) p.n p.table p.ready m r low high rows_in a b (rw plan_rows at h)
 
-    -- ---- the rows that are met, at a length of at least 1
+    all_rows : options (grammar p) m r ≡ from_below (grammar p) m r p.sheet.now.rows.count
+    all_rows = below_done (grammar p) p.n p.table p.ready m r low high rows_in p.sheet.now.rows.count plan_rows
 
-    module _ (low : 1 ≤ m) (high : m ≤ j.n) (inside : r < j.rows.count) where
-      rows_in : r < length (grammar_of s).rows
-      rows_in = omega (arith, job_rows p.job)
+    -- from row a on, row q is met next
+    pub met_turn : (a q : ℕ) (x : Row) → FirstOf (chosen p.table r m) a p.sheet.now.rows.count (Some q) → RowRead p.sheet.now.bytes.now q x
+        → from_below (grammar p) m r (q + 1) ≡ from_below (grammar p) m r a ++ own_opts m q (as_row x)
+    met_turn a q x h y =
+        below_more (grammar p) p.n p.table p.ready m r low high rows_in q (omega (arith, h.0, plan_rows)) (h.1.hit h.0) ∙ rw (passed a q h.1, y.same)
 
-      passed : (a b : ℕ) → First (chosen ws r m) a j.rows.count b → from_below (grammar_of s) m r b ≡ from_below (grammar_of s) m r a
-      passed a b h = below_next (grammar_of s) j.n ws p.ready m r low high rows_in a b (rw (job_rows p.job) at h)
+    pub met_length : (a q : ℕ) (x : Row) → FirstOf (chosen p.table r m) a p.sheet.now.rows.count (Some q) → RowRead p.sheet.now.bytes.now q x
+        → length (from_below (grammar p) m r (q + 1)) ≡ length (from_below (grammar p) m r a) + length (own_opts m q (as_row x))
+    met_length a q x h y = ap length (met_turn a q x h y) ∙ length-append (from_below (grammar p) m r a) (own_opts m q (as_row x))
 
-      all_rows : options (grammar_of s) m r ≡ from_below (grammar_of s) m r j.rows.count
-      all_rows = below_done (grammar_of s) j.n ws p.ready m r low high rows_in j.rows.count (job_rows p.job)
+    -- from row a on, no row is met
+    pub met_all : (a : ℕ) → FirstOf (chosen p.table r m) a p.sheet.now.rows.count None → options (grammar p) m r ≡ from_below (grammar p) m r a
+    met_all a h = all_rows ∙ passed a p.sheet.now.rows.count h
 
-      -- from row a on, row q is met next
-      pub met_turn : (a q : ℕ) (x : Row) → FirstOf (chosen ws r m) a j.rows.count (Some q) → RowRead s q x
-          → from_below (grammar_of s) m r (q + 1) ≡ from_below (grammar_of s) m r a ++ own_opts m q (as_row x)
-      met_turn a q x h y =
-          below_more (grammar_of s) j.n ws p.ready m r low high rows_in q (omega (arith, h.0, job_rows p.job)) (h.1.hit h.0) ∙ rw (passed a q h.1, y.same)
-
-      pub met_length : (a q : ℕ) (x : Row) → FirstOf (chosen ws r m) a j.rows.count (Some q) → RowRead s q x
-          → length (from_below (grammar_of s) m r (q + 1)) ≡ length (from_below (grammar_of s) m r a) + length (own_opts m q (as_row x))
-      met_length a q x h y = ap length (met_turn a q x h y) ∙ length-append (from_below (grammar_of s) m r a) (own_opts m q (as_row x))
-
-      -- from row a on, no row is met
-      pub met_all : (a : ℕ) → FirstOf (chosen ws r m) a j.rows.count None → options (grammar_of s) m r ≡ from_below (grammar_of s) m r a
-      met_all a h = all_rows ∙ passed a j.rows.count h
-
-      -- a row's own options are among the row's options
-      pub met_inside : (a q : ℕ) (x : Row) → FirstOf (chosen ws r m) a j.rows.count (Some q) → RowRead s q x
-          → length (from_below (grammar_of s) m r a) + length (own_opts m q (as_row x)) ≤ length (options (grammar_of s) m r)
-      met_inside a q x h y =
-          omega (arith, met_length a q x h y, below_rises (grammar_of s) m r (q + 1) j.rows.count (omega (arith, h.0)), ap length all_rows)
+    -- a row's own options are among the row's options
+    pub met_inside : (a q : ℕ) (x : Row) → FirstOf (chosen p.table r m) a p.sheet.now.rows.count (Some q) → RowRead p.sheet.now.bytes.now q x
+        → length (from_below (grammar p) m r a) + length (own_opts m q (as_row x)) ≤ length (options (grammar p) m r)
+    met_inside a q x h y =
+        omega (arith, met_length a q x h y, below_rises (grammar p) m r (q + 1) p.sheet.now.rows.count (omega (arith, h.0)), ap length all_rows)

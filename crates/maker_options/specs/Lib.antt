@@ -1,2 +1,3 @@
 pub mod Giving
 pub mod Prepared
+pub mod Planned

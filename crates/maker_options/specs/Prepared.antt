@@ -2,31 +2,16 @@
 use Rattle.std.specs.Prelude.{ℕ, ◌+◌, ◌≤◌, ◌<◌, ◌≡◌, Bool, List, length, get_or}
 use Rattle.paper.specs.Rows.{Grammar}
 use Rattle.paper.specs.Decide.{nullable, reaches}
-use Rattle.paper.specs.Sheet.{grammar_of}
 use Rattle.paper.specs.Cuts.{groups}
 use Rattle.workspace.specs.Bits.{bit_at}
 use Rattle.workspace.specs.Scan.{in_both}
-use Rattle.rows.specs.Sets.{RowsAt}
-use Rattle.maker_options.specs.declared.Job.{Job}
 use Rattle.maker_options.specs.Giving.{giving}
 
 -- entry r holds the rows that row r reaches; entry 256 the rows that derive the empty word; entry 256 + m, m from 1 to n, the rows that give an option at length m
 pub record Ready (g : Grammar) (n : ℕ) (ws : List ℕ) : Type 0 where
-  pub long : length ws ≡ 1268
   pub reached : (r q : ℕ) → r < length g.rows → q < length g.rows → bit_at ws r q ≡ reaches g r q
   pub nil : (r : ℕ) → bit_at ws 256 r ≡ nullable g r
   pub gives : (m q : ℕ) → 1 ≤ m → m ≤ n → q < length g.rows → bit_at ws (256 + m) q ≡ giving g m q
-
--- the rows of an accepted sheet, and a list's length
-pub record JobOf (s : List ℕ) (j : Job) : Type 0 where
-  pub rows : RowsAt s j.rows
-  pub some : 0 < j.rows.count
-  pub short : j.n ≤ 60
-
--- with the table made of them
-pub record Prepared (s ws : List ℕ) (j : Job) : Type 0 where
-  pub job : JobOf s j
-  pub ready : Ready (grammar_of s) j.n ws
 
 -- row r reaches a row, which gives an option at length m
 abbrev pub chosen : List ℕ → (r m : ℕ) → ℕ → Bool
@@ -42,11 +27,9 @@ pub record Offsets (g : Grammar) (k : ℕ) (offsets : List ℕ) : Type 0 where
 
 -- the rows below n and the first k entries: entry r holds the rows whose entry of another table holds row r
 pub record Turned (from : List ℕ) (n k : ℕ) (ws : List ℕ) : Type 0 where
-  pub long : length ws ≡ 1268
   pub each : (r q : ℕ) → r < k → q < n → bit_at ws r q ≡ bit_at from q r
 
 -- the lengths from 1 to k - 1 have their entries; those of the rows and of length 0 are as they were
 pub record Given (g : Grammar) (k : ℕ) (old now : List ℕ) : Type 0 where
-  pub long : length now ≡ 1268
   pub each : (m q : ℕ) → 1 ≤ m → m < k → q < length g.rows → bit_at now (256 + m) q ≡ giving g m q
   pub kept : (t q : ℕ) → t ≤ 256 → bit_at now t q ≡ bit_at old t q

@@ -1,14 +1,18 @@
 #![tactic(auto)]
 
 // Which rows give options at each length, made once a call, and how many bytes each group takes.
-pub mod ready;
-pub mod sizes;
+pub mod plan;
+mod ready;
+mod sizes;
 
-use sheet_trailer::Table;
+pub use plan::Plan;
+pub use sizes::own_count;
 
-// Where the rows of an accepted sheet lie, and the list's length.
-#[derive(Clone, Copy)]
-pub struct Job {
-    pub rows: Table,
-    pub n: usize,
-}
+// The most rows.
+pub const ROWS: usize = 256;
+
+// How many lengths there are, from 0 on.
+pub const LENGTHS: usize = 61;
+
+// The words of a plan's table: four for each row, and four for each length.
+pub const WORDS: usize = 4 * (ROWS + LENGTHS);

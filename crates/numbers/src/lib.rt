@@ -1,4 +1,5 @@
-// Numbers and marks in a run of bytes, as sheets and cut lists have them: read, and written.
+// Numbers and marks in a run of bytes, as sheets and cut lists have them: read, and written. Two widths are two functions of a line
+// or two each: one over the width would be longer than both.
 #![tactic(auto)]
 
 ghost use Rattle.std.specs.Prelude.{◌≡◌, ◌+◌, ◌≤◌, ◌<◌, length, slice_index};

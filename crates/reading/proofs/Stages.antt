@@ -1,4 +1,4 @@
--- The table while it is filled, and at the end: its bits are the reading of the list, and what lies past the table is kept.
+-- The table while it is filled, and at the end: its bits are the reading of the list.
 -- Assumes nothing.
 use Prim.Native.Nat.{ℕ, zero, suc, ◌+◌, ◌-◌, ◌≤◌, ◌<◌}
 use mathlib.Core.Path.{◌≡◌, refl, sym, ap, ◌∙◌}
@@ -10,9 +10,9 @@ use native.Mathlib.Nat.{not-suc-le-zero, eq-or-lt_of_le, le_of_suc-le-suc, zero-
 use native.Mathlib.Numerals.{add-one}
 use native.Mathlib.Omega.{arith}
 use lib.Dec.{ltb}
-use lib.ListN.{length, drop}
+use lib.ListN.{length, length-replicate, replicate}
 use borrow.Author.Tests.{lt-ltb, le-ltb}
-use Rattle.paper.specs.Answers.{words, zeroed}
+use Rattle.paper.specs.Answers.{words}
 use Rattle.paper.specs.Tests.{any_below}
 use Rattle.paper.specs.Decide.{Test, exactly}
 use Rattle.paper.specs.Cuts.{Opt, Byte, Stretch, Split, Nil}
@@ -23,7 +23,7 @@ use Rattle.paper.proofs.WellFormed.{Formed, formed_level}
 use Rattle.workspace.specs.Spans.{span_at}
 use Rattle.workspace.specs.Bits.{bit_at, set_bit}
 use Rattle.workspace.proofs.Spans.{lt_or_le, span_lt, span_inj}
-use Rattle.workspace.proofs.Bits.{length_set_bit, set_bit_same, set_bit_other, set_bit_apart, drop_set_bit, zeroed_bit, length_zeroed, drop_zeroed, zeroed_same}
+use Rattle.workspace.proofs.Bits.{length_set_bit, set_bit_same, set_bit_other, set_bit_apart, cleared_bit}
 use Rattle.list.proofs.Formed.{option_obeys}
 use Rattle.reading.specs.Marks.{in_table, in_turn, mark_start, mark_option, mark_at, mark_head, mark_group, marked}
 
@@ -66,13 +66,6 @@ module _ (b : Bool) (ws : List ℕ) (i m r : ℕ) where
       go true = length_set_bit ws (span_at i m) r
       go false = refl
 
-  after_tail : i + m ≤ 60 → r < 256 → drop 7564 after ≡ drop 7564 ws
-  after_tail h l = go b
-    where
-      go : (b : Bool) → drop 7564 (cond b (set_bit ws (span_at i m) r) ws) ≡ drop 7564 ws
-      go true = drop_set_bit ws (span_at i m) r 7564 (omega (arith, span_lt i m h)) l
-      go false = refl
-
   after_same : i + m ≤ 60 → r < 256 → 7564 ≤ length ws → in_table after m i r ≡ (b || in_table ws m i r)
   unfolding in_table
   after_same h l g = go b
@@ -101,9 +94,8 @@ module _ (l text word : List ℕ) where
   meets m x i = holds text (exactly word) reads m i x
 
 -- the shorter lengths are read, at length m the rows before r; `own` is what row r has; there is nothing yet of later rows and lengths
-record Stage (l text word : List ℕ) (m r : ℕ) (own : ℕ → Bool) (was ws : List ℕ) : Type 0 where
-  long : length ws ≡ length was
-  tail : drop 7564 ws ≡ drop 7564 was
+record Stage (l text word : List ℕ) (m r : ℕ) (own : ℕ → Bool) (ws : List ℕ) : Type 0 where
+  long : length ws ≡ 7564
   short : (k i q : ℕ) → k < m → i + k ≤ length word → q < rows_of l → in_table ws k i q ≡ reads l text word k i q
   done : (i q : ℕ) → i + m ≤ length word → q < r → in_table ws m i q ≡ reads l text word m i q
   here : (i : ℕ) → i + m ≤ length word → in_table ws m i r ≡ own i
@@ -113,15 +105,14 @@ record Stage (l text word : List ℕ) (m r : ℕ) (own : ℕ → Bool) (was ws :
 none : ℕ → Bool
 none i = false
 
-module _ (l text word : List ℕ) (f : Formed l (length text)) (n : length word ≡ n_of l) (was : List ℕ) (room : 7564 ≤ length was) where
+module _ (l text word : List ℕ) (f : Formed l (length text)) (n : length word ≡ n_of l) where
   abbrev At : (m r : ℕ) → (ℕ → Bool) → List ℕ → Type 0
-  At m r own ws = Stage l text word m r own was ws
+  At m r own ws = Stage l text word m r own ws
 
   module _ (m r : ℕ) (h : m ≤ n_of l) (u : r < rows_of l) where
     stage_own : (own own' : ℕ → Bool) (ws : List ℕ) → ((i : ℕ) → i + m ≤ length word → own i ≡ own' i) → At m r own ws → At m r own' ws
     stage_own own own' ws e s = record {
       long = s.long;
-      tail = s.tail;
       short = s.short;
       done = s.done;
       here = λ i v. s.here i v ∙ e i v;
@@ -138,7 +129,6 @@ module _ (l text word : List ℕ) (f : Formed l (length text)) (n : length word 
         let big : 7564 ≤ length ws = omega (arith, s.long) in
         record {
           long = after_long b ws i m r ∙ s.long;
-          tail = after_tail b ws i m r c60 c256 ∙ s.tail;
           short = λ k j q a x y. after_other b ws i m r c256 k j q (λ p o z. omega arith) ∙ s.short k j q a x y;
           done = λ j q x y. after_other b ws i m r c256 m j q (λ p o z. omega arith) ∙ s.done j q x y;
           here = λ j x. at j x (ℕ_discrete j i) c60 c256 big;
@@ -213,7 +203,6 @@ module _ (l text word : List ℕ) (f : Formed l (length text)) (n : length word 
         step : (v : List ℕ) → At m r (λ i. reads l text word m i r) v → At m (suc r) none v
         step v t = record {
           long = t.long;
-          tail = t.tail;
           short = t.short;
           done = λ i q x y. ⊎_elim (λ (p : q ≡ r). rw p (t.here i x)) (λ (p : q < r). t.done i q x p) (eq-or-lt_of_le (le_of_suc-le-suc y));
           here = λ i x. t.next i (suc r) x (omega arith);
@@ -228,7 +217,6 @@ module _ (l text word : List ℕ) (f : Formed l (length text)) (n : length word 
       step : (v : List ℕ) → At m (rows_of l) none v → At (suc m) 0 none v
       step v t = record {
         long = t.long;
-        tail = t.tail;
         short = λ k i q x y z. ⊎_elim (λ (p : k ≡ m). rw p (t.done i q (omega arith) z)) (λ (p : k < m). t.short k i q p y z) (eq-or-lt_of_le (le_of_suc-le-suc x));
         done = λ i q x y. absurd (not-suc-le-zero y);
         here = λ i x. t.later (suc m) i 0 (omega arith) x;
@@ -240,11 +228,10 @@ module _ (l text word : List ℕ) (f : Formed l (length text)) (n : length word 
   unfolding marked
   stage_all ws s = turn_keeps (λ m v. At m 0 none v) (mark_group l text word) ws s (suc (n_of l)) (λ m u v t. stage_group m (le_of_suc-le-suc u) v t)
 
-  stage_none : At 0 0 none (zeroed 7564 was)
+  stage_none : At 0 0 none (replicate 7564 0)
   unfolding none in_table
   stage_none = record {
-    long = length_zeroed 7564 was room;
-    tail = drop_zeroed 7564 was;
+    long = length-replicate {A = ℕ} 7564 0;
     short = λ k i q x y z. absurd (not-suc-le-zero x);
     done = λ i q x y. absurd (not-suc-le-zero y);
     here = λ i x. clean 0 i 0 x;
@@ -252,18 +239,14 @@ module _ (l text word : List ℕ) (f : Formed l (length text)) (n : length word 
     later = λ k i q x y. clean k i q y;
   }
     where
-      clean : (k i q : ℕ) → i + k ≤ length word → bit_at (zeroed 7564 was) (span_at i k) q ≡ false
-      clean k i q x = zeroed_bit 7564 was (span_at i k) q (omega (arith, span_lt i k (omega (arith, f.trailer.most))))
+      clean : (k i q : ℕ) → i + k ≤ length word → bit_at (replicate 7564 0) (span_at i k) q ≡ false
+      clean k i q x = cleared_bit 7564 (span_at i k) q (omega (arith, span_lt i k (omega (arith, f.trailer.most))))
 
-  end : At (suc (n_of l)) 0 none (marked l text word (zeroed 7564 was))
-  end = stage_all (zeroed 7564 was) stage_none
+  end : At (suc (n_of l)) 0 none (marked l text word (replicate 7564 0))
+  end = stage_all (replicate 7564 0) stage_none
 
-  -- THE TABLE AT THE END, filled from a zeroed one: the root's bit is the reading, and what lies past the table is kept
-  module _ (ws : List ℕ) (e : ws ≡ marked l text word (zeroed words was)) where
+  -- THE TABLE AT THE END, filled from a zeroed one: the root's bit is the reading
+  module _ (ws : List ℕ) (e : ws ≡ marked l text word (replicate words 0)) where
     pub marked_reads : (s q : ℕ) → s ≡ span_at 0 (length word) → q ≡ root_of l → bit_at ws s q ≡ reading l text word
     unfolding reading words in_table
     marked_reads s q a b = rw (e, a, b) (end.short (length word) 0 (root_of l) (omega arith) (omega arith) f.trailer.root)
-
-    pub marked_zeroed : zeroed words ws ≡ zeroed words was
-    unfolding words
-    marked_zeroed = zeroed_same words was ws (ap (λ v. drop 7564 v) e ∙ end.tail)

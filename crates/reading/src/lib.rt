@@ -1,27 +1,30 @@
 #![tactic(auto)]
 
 // The reading: a bit of the workspace for each row and each part of the word that it accepts, the shorter lengths first.
-ghost use Rattle.std.specs.Prelude.{◌≡◌, true, ◌+◌, ◌≤◌, ◌<◌, length};
+ghost use Rattle.std.specs.Prelude.{◌≡◌, true, ◌+◌, ◌≤◌, ◌<◌, length, replicate};
 ghost use Rattle.paper.specs.Decide.{exactly};
 ghost use Rattle.paper.specs.Gate.{n_of, rows_of, group_at, head_at, head_end, well_formed, «holds», reading};
-ghost use Rattle.paper.specs.Answers.{words, zeroed};
+ghost use Rattle.paper.specs.Answers.{words};
 ghost use Rattle.paper.proofs.Obeys.{Obeys};
-ghost use Rattle.list.specs.Read.{option_of};
+ghost use Rattle.list.specs.Read.{Trailed, option_of};
 ghost use Rattle.reading.specs.Readable.{Readable};
 ghost use Rattle.reading.specs.Marks.{in_table, mark_option, mark_head, mark_group, marked};
 
 use list::fields;
-use list::fields::Opt;
+use list::fields::{Opt, Trailer};
+use workspace::Workspace;
 
-// A well-formed list, its row count, its text, and a word of its length.
+// A well-formed list, its trailer, its text, and a word of its length.
+// `list` has a struct of its own while it looks: that list is not yet known to be well formed, and `well_formed` is asked with
+// only the text's length, so a type for both would hold neither the text nor the fact.
 #[derive(Clone, Copy)]
 struct Reading<'a> {
     list: &'a [u8],
-    rows: usize,
+    t: Trailer,
     text: &'a [u8],
     word: &'a [u8],
     ghost formed: { well_formed list.now (length text.now) ≡ true },
-    ghost rows_are: { rows ≡ rows_of list.now },
+    ghost trailed: { Trailed list.now t },
     ghost fit: { length word.now ≡ n_of list.now },
     ghost short: { length word.now ≤ 60 },
 }
@@ -29,8 +32,8 @@ struct Reading<'a> {
 impl<'a> Reading<'a> {
     // Whether the option holds of the m bytes from place i on. A step looks at the bits of shorter lengths.
     #[tactic(auto, using(crate::proofs::Holding::holdings), unfolding(crate::specs::Marks::in_table))]
-    fn holds(&self, work: &[u64], x: Opt, m: usize, i: usize) -> bool
-        requires { Obeys (length self.now.text.now) 256 m (option_of x) × (i + m ≤ length self.now.word.now) × (7564 ≤ length work.now) }
+    fn holds(&self, work: &Workspace, x: Opt, m: usize, i: usize) -> bool
+        requires { Obeys (length self.now.text.now) 256 m (option_of x) × (i + m ≤ length self.now.word.now) }
         ensures { result ≡ «holds» self.now.text.now (exactly self.now.word.now) (in_table work.now) m i (option_of x) }
     {
         match x {
@@ -45,8 +48,8 @@ impl<'a> Reading<'a> {
     }
 
     // An option at each start.
-    fn mark_option(&self, work: &mut [u64], x: Opt, m: usize, r: usize)
-        requires { Obeys (length self.now.text.now) 256 m (option_of x) × (m ≤ length self.now.word.now) × (7564 ≤ length work.old) × (r < 256) }
+    fn mark_option(&self, work: &mut Workspace, x: Opt, m: usize, r: usize)
+        requires { Obeys (length self.now.text.now) 256 m (option_of x) × (m ≤ length self.now.word.now) × (r < 256) }
         ensures { work.new ≡ mark_option self.now.text.now self.now.word.now m r (option_of x) work.old }
     {
         for i in 0..self.word.len() + 1 - m {
@@ -57,8 +60,8 @@ impl<'a> Reading<'a> {
     }
 
     // The options of row r's head at o, and where they end.
-    fn mark_head(&self, work: &mut [u64], m: usize, r: usize, o: usize) -> usize
-        requires { (7564 ≤ length work.old) × (m ≤ n_of self.now.list.now) × (r < rows_of self.now.list.now) × (o ≡ head_at self.now.list.now m r) × (head_end self.now.list.now o ≤ length self.now.list.now) }
+    fn mark_head(&self, work: &mut Workspace, m: usize, r: usize, o: usize) -> usize
+        requires { (m ≤ n_of self.now.list.now) × (r < rows_of self.now.list.now) × (o ≡ head_at self.now.list.now m r) × (head_end self.now.list.now o ≤ length self.now.list.now) }
         ensures { (result ≡ head_end self.now.list.now o) × (work.new ≡ mark_head self.now.list.now self.now.text.now self.now.word.now m r work.old) }
     {
         let count = numbers::u32_at(self.list, o + 4);
@@ -70,20 +73,19 @@ impl<'a> Reading<'a> {
     }
 
     // The heads of group m at o, and where they end.
-    fn mark_group(&self, work: &mut [u64], m: usize, at: usize) -> usize
-        requires { (7564 ≤ length work.old) × (m ≤ n_of self.now.list.now) × (at ≡ group_at self.now.list.now m) }
-        ensures { (result ≡ head_at self.now.list.now m self.now.rows) × (work.new ≡ mark_group self.now.list.now self.now.text.now self.now.word.now m work.old) }
+    fn mark_group(&self, work: &mut Workspace, m: usize, at: usize) -> usize
+        requires { (m ≤ n_of self.now.list.now) × (at ≡ group_at self.now.list.now m) }
+        ensures { (result ≡ head_at self.now.list.now m self.now.t.rows) × (work.new ≡ mark_group self.now.list.now self.now.text.now self.now.word.now m work.old) }
     {
         let mut o = at;
-        for r in 0..self.rows {
+        for r in 0..self.t.rows {
             o = self.mark_head(work, m, r, o);
         }
         o
     }
 
     // Every group.
-    fn mark_groups(&self, work: &mut [u64])
-        requires { 7564 ≤ length work.old }
+    fn mark_groups(&self, work: &mut Workspace)
         ensures { work.new ≡ marked self.now.list.now self.now.text.now self.now.word.now work.old }
     {
         let mut at = 0;
@@ -93,15 +95,14 @@ impl<'a> Reading<'a> {
     }
 }
 
-// Whether the root's head accepts the word. The bits start from zero, and none is left.
-pub fn read(list: &[u8], text: &[u8], word: &[u8], work: &mut [u64]) -> bool
-    requires { Readable list.now text.now word.now work.old }
-    ensures { (result ≡ reading list.now text.now word.now) × (work.new ≡ zeroed words work.old) }
+// Whether the root's head accepts the word, with the list's trailer as `list::formed_trailer` gives it. The bits start from zero, and none is left.
+pub fn read(list: &[u8], t: Trailer, text: &[u8], word: &[u8], work: &mut Workspace) -> bool
+    requires { Readable list.now text.now word.now × Trailed list.now t }
+    ensures { (result ≡ reading list.now text.now word.now) × (work.new ≡ replicate words 0) }
 {
-    let t = fields::trailer_of(list);
     let reading = Reading {
         list,
-        rows: t.rows,
+        t,
         text,
         word,
     };

@@ -1,3 +1,4 @@
+pub mod Zeros
 pub mod Passes
 pub mod ByKind
 pub mod NullLaws

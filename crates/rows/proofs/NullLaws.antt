@@ -6,18 +6,19 @@ use mathlib.Core.Bool.{Bool, true, false, true≢false}
 use mathlib.Core.List.{List}
 use native.Mathlib.Decide.{ℕ_discrete}
 use native.Mathlib.Omega.{arith}
-use lib.ListN.{length}
+use lib.ListN.{length, replicate}
 use Rattle.paper.specs.Rows.{Row, Grammar, row}
 use Rattle.paper.specs.Decide.{has, closure, null_row, null_rule, nullable}
 use Rattle.paper.proofs.Tests.{same_test}
 use Rattle.paper.proofs.Closure.{closure_closed, closure_least}
 use Rattle.paper.proofs.Reaching.{null_mono}
-use Rattle.workspace.specs.Bits.{bit_at, set_bit, wiped}
+use Rattle.workspace.specs.Bits.{bit_at, set_bit}
 use Rattle.workspace.specs.Room.{Grows}
-use Rattle.workspace.proofs.Bits.{set_bit_same, set_bit_other, wiped_bit}
+use Rattle.workspace.proofs.Bits.{set_bit_same, set_bit_other}
 use Rattle.workspace.proofs.Room.{grows_not}
 use Rattle.rows.specs.Sets.{Nulls, NullSound, NullSettled}
 use Rattle.rows.specs.Passes.{Turn}
+use Rattle.rows.proofs.Zeros.{zero_bit}
 
 module _ (g : Grammar) (r : ℕ) (x : Row) (is : x ≡ row g r) (old : List ℕ) where
   -- the rule asks for r: it is put in
@@ -39,8 +40,8 @@ module _ (g : Grammar) (r : ℕ) (x : Row) (is : x ≡ row g r) (old : List ℕ)
   unfolding null_rule
   null_no e = record { grows = grows_not old; sound = λ s. s; settled = λ z h. absurd (true≢false (sym h ∙ rw is at e)) }
 
-pub null_start : (g : Grammar) (ws : List ℕ) → 4 ≤ length ws → NullSound g (wiped ws 0)
-null_start g ws room r h = absurd (true≢false (sym h ∙ wiped_bit ws 0 (omega arith) r))
+pub null_start : (g : Grammar) (n : ℕ) → NullSound g (replicate n 0)
+null_start g n r h = absurd (true≢false (sym h ∙ zero_bit n 0 r))
 
 -- where every row is settled, the bits are the rows that derive the empty word
 pub null_end : (g : Grammar) (ws : List ℕ) → NullSound g ws → ((r : ℕ) → r < length g.rows → NullSettled g ws r) → Nulls g ws

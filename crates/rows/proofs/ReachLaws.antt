@@ -9,18 +9,19 @@ use native.Mathlib.Decide.{ℕ_discrete}
 use native.Mathlib.Omega.{arith}
 use lib.Dec.{eqb}
 use borrow.Author.Tests.{ne_eqb}
-use lib.ListN.{length}
+use lib.ListN.{length, replicate}
 use Rattle.paper.specs.Rows.{Row, Grammar, row, Keeps, Reach}
 use Rattle.paper.specs.Decide.{nullable, reaches}
 use Rattle.paper.proofs.Tests.{same_test, or_cases, or_left, or_right, eqb_same, same_eqb}
 use Rattle.paper.proofs.Reaching.{reaches_sound, reaches_from, keeps_below}
-use Rattle.workspace.specs.Bits.{bit_at, set_bit, wiped, joined}
+use Rattle.workspace.specs.Bits.{bit_at, set_bit, joined}
 use Rattle.workspace.specs.Room.{Grows}
-use Rattle.workspace.proofs.Bits.{set_bit_same, set_bit_other, set_bit_apart, length_wiped, wiped_bit, wiped_apart, joined_bit, joined_apart}
+use Rattle.workspace.proofs.Bits.{set_bit_same, set_bit_other, set_bit_apart, joined_bit, joined_apart}
 use Rattle.std.specs.Prelude.{Option, Some, None}
 use Rattle.rows.specs.Sets.{steps_of, passed_on, Started, Nulls, Reached, ReachSound, ReachSettled}
 use Rattle.rows.specs.Passes.{Turn}
 use Rattle.rows.proofs.Passes.{grows_then}
+use Rattle.rows.proofs.Zeros.{zero_bit}
 use Rattle.rows.proofs.ByKind.{led_keeps, keeps_led}
 
 -- one step more at the end
@@ -92,21 +93,27 @@ module _ (g : Grammar) (r : ℕ) (x : Row) (is : x ≡ row g r) (l : r < length 
 -- each row reaches itself
 pub reach_start : (g : Grammar) (ws : List ℕ) {n : ℕ} → n ≡ length g.rows → Started n ws → ReachSound g ws
 reach_start g ws p s = record {
-  self = λ q h. s q q (rw p h) ∙ same_eqb q q refl;
-  right = λ q r h e. subst (λ (z : ℕ). Reach g r z) (eqb_same r q (sym (s q r (rw p h)) ∙ e)) Reach.here;
+  self = λ q h. s.own q q (rw p h) ∙ same_eqb q q refl;
+  right = λ q r h e. subst (λ (z : ℕ). Reach g r z) (eqb_same r q (sym (s.own q r (rw p h)) ∙ e)) Reach.here;
 }
 
 -- one entry more
-pub started_more : (q : ℕ) (ws : List ℕ) → q < 256 → 4 * q + 4 ≤ length ws → Started q ws → Started (q + 1) (set_bit (wiped ws q) q q)
-started_more q ws low room s t r h = at (ℕ_discrete t q)
-  where
-    own : Dec (r ≡ q) → bit_at (set_bit (wiped ws q) q q) q r ≡ eqb r q
-    own (yes e) = rw e (set_bit_same (wiped ws q) q q (rw length_wiped room) low ∙ sym (same_eqb q q refl))
-    own (no k) = set_bit_other (wiped ws q) q q r k ∙ wiped_bit ws q room r ∙ sym (ne_eqb r q k)
+pub started_none : (n : ℕ) → Started 0 (replicate n 0)
+started_none n = record { own = λ q r h. absurd (omega arith); later = λ q r h. zero_bit n q r }
 
-    at : Dec (t ≡ q) → bit_at (set_bit (wiped ws q) q q) t r ≡ eqb r t
-    at (yes e) = rw e (own (ℕ_discrete r q))
-    at (no k) = set_bit_apart (wiped ws q) q q t r k low ∙ wiped_apart ws q t r k ∙ s t r (omega (arith, k))
+pub started_more : (q : ℕ) (ws : List ℕ) → q < 256 → 4 * q + 4 ≤ length ws → Started q ws → Started (q + 1) (set_bit ws q q)
+started_more q ws low room s = record {
+  own = λ t r h. at t r h (ℕ_discrete t q);
+  later = λ t r h. set_bit_apart ws q q t r (λ e. omega arith) low ∙ s.later t r (omega arith);
+}
+  where
+    own : (r : ℕ) → Dec (r ≡ q) → bit_at (set_bit ws q q) q r ≡ eqb r q
+    own r (yes e) = rw e (set_bit_same ws q q room low ∙ sym (same_eqb q q refl))
+    own r (no k) = set_bit_other ws q q r k ∙ s.later q r (omega arith) ∙ sym (ne_eqb r q k)
+
+    at : (t r : ℕ) → t < q + 1 → Dec (t ≡ q) → bit_at (set_bit ws q q) t r ≡ eqb r t
+    at t r h (yes e) = rw e (own r (ℕ_discrete r q))
+    at t r h (no k) = set_bit_apart ws q q t r k low ∙ s.own t r (omega (arith, k))
 
 -- where every row is settled, the bits are the rows that reach
 pub reach_end : (g : Grammar) (ws : List ℕ) → ReachSound g ws → ((r : ℕ) → r < length g.rows → ReachSettled g ws r) → Reached g ws

@@ -1,12 +1,9 @@
 -- The two sets that are made once a call, as bits of a table: the rows that derive the empty word, and for each row the rows that reach it.
-use Rattle.std.specs.Prelude.{ℕ, ◌<◌, ◌≡◌, Bool, true, List, Option, Some, None, eqb, length}
+use Rattle.std.specs.Prelude.{ℕ, ◌<◌, ◌≤◌, ◌≡◌, Bool, true, false, List, Option, Some, None, eqb, length}
 use Rattle.std.specs.Bool.{then_some}
 use Rattle.paper.specs.Rows.{Row, Empty, Range, Text, Alt, Seq, Star, Grammar, Keeps, Reach}
 use Rattle.paper.specs.Decide.{null_rule, nullable, reaches}
 use Rattle.workspace.specs.Bits.{bit_at, joined}
-use Rattle.sheet_trailer.specs.declared.Table.{Table}
-use Rattle.sheet_trailer.specs.Tables.{TableOf}
-use Rattle.sheet.specs.Good.{Good}
 
 -- entry 0 holds the rows that derive the empty word
 pub record Nulls (g : Grammar) (ws : List ℕ) : Type 0 where
@@ -15,11 +12,6 @@ pub record Nulls (g : Grammar) (ws : List ℕ) : Type 0 where
 -- entry q holds the rows that reach row q
 pub record Reached (g : Grammar) (ws : List ℕ) : Type 0 where
   pub bits : (q r : ℕ) → q < length g.rows → bit_at ws q r ≡ reaches g r q
-
--- t is where the rows of an accepted sheet lie
-pub record RowsAt (s : List ℕ) (t : Table) : Type 0 where
-  pub good : Good s
-  pub table : TableOf s 2 t
 
 -- the children of a row to which a step leads that keeps the length, given the rows that derive the empty word
 abbrev pub steps_of : (ℕ → Bool) → Row → Option ℕ × Option ℕ
@@ -35,9 +27,10 @@ abbrev pub passed_on : Option ℕ → (r : ℕ) → List ℕ → List ℕ
 passed_on (Some p) r ws = joined ws p ws r
 passed_on None r ws = ws
 
--- of the first n entries, each holds its own row alone
-abbrev pub Started : ℕ → List ℕ → Type 0
-Started n ws = (q r : ℕ) → q < n → bit_at ws q r ≡ eqb r q
+-- of the first n entries, each holds its own row alone; the later ones hold none
+pub record Started (n : ℕ) (ws : List ℕ) : Type 0 where
+  pub own : (q r : ℕ) → q < n → bit_at ws q r ≡ eqb r q
+  pub later : (q r : ℕ) → n ≤ q → bit_at ws q r ≡ false
 
 -- what the passes that find the empty words keep: no other row is in
 abbrev pub NullSound : Grammar → List ℕ → Type 0

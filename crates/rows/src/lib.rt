@@ -10,22 +10,16 @@ ghost use Rattle.paper.proofs.Sound.{SoundRow};
 ghost use Rattle.workspace.specs.Bits.{bit_at};
 ghost use Rattle.workspace.specs.Room.{Grows};
 ghost use Rattle.sheet_contents.specs.Read.{as_row};
-ghost use Rattle.rows.specs.Sets.{Nulls, Reached, RowsAt, Started, steps_of, passed_on, NullSound, NullSettled, ReachSound, ReachSettled};
+ghost use Rattle.rows.specs.Sets.{Nulls, Reached, Started, steps_of, passed_on, NullSound, NullSettled, ReachSound, ReachSettled};
 ghost use Rattle.rows.specs.Passes.{turn_of, Turn, Pass, Done};
 
+use sheet::Sheet;
 use sheet_contents::Row;
-use sheet_trailer::Table;
 
-// A rule that puts rows into a table, a row's turn at a time.
-trait Rule {
-    // What its turns may rest on.
-    ghost ready: { Self → Type 0 };
-
+// A rule that puts rows into a table of N words, a row's turn at a time.
+trait Rule<const N: usize> {
     // How many rows have a turn.
     ghost rows: { Self → ℕ };
-
-    // How many words of the table are written.
-    ghost words: { Self → ℕ };
 
     // What the turns keep of the table.
     ghost sound: { Self → List ℕ → Type 0 };
@@ -37,12 +31,12 @@ trait Rule {
         ensures { result ≡ rows self.now };
 
     // Row r's turn. Whether something is new.
-    fn turn(&self, out: &mut [u64], r: usize) -> bool
-        requires { ready self.now × (r < rows self.now) × (words self.now ≤ length out.old) }
+    fn turn(&self, out: &mut [u64; N], r: usize) -> bool
+        requires { r < rows self.now }
         ensures { Turn (sound self.now) (settled self.now) r result out.old out.new };
 }
 
-// The row whose turn is turn j of n, in rising or in falling order.
+// The row whose turn is turn j of n, in rising or in falling order: a range and its reverse are two types, and would be two loops.
 fn turn_of(down: bool, n: usize, j: usize) -> usize
     requires { j < n }
     ensures { (result ≡ turn_of down n j) × (result < n) }
@@ -51,8 +45,7 @@ fn turn_of(down: bool, n: usize, j: usize) -> usize
 }
 
 // One pass. Whether something is new.
-fn pass<R: Rule>(rule: &R, out: &mut [u64], down: bool) -> bool
-    requires { R.ready rule.now × (R.words rule.now ≤ length out.old) }
+fn pass<const N: usize, R: Rule<N>>(rule: &R, out: &mut [u64; N], down: bool) -> bool
     ensures { Pass (R.sound rule.now) (R.settled rule.now) (R.rows rule.now) result out.old out.new }
 {
     let n = rule.count();
@@ -65,8 +58,7 @@ fn pass<R: Rule>(rule: &R, out: &mut [u64], down: bool) -> bool
 }
 
 // Passes, rising and falling by turns, until one adds nothing.
-fn settle<R: Rule>(rule: &R, out: &mut [u64], mut down: bool)
-    requires { R.ready rule.now × (R.words rule.now ≤ length out.old) }
+fn settle<const N: usize, R: Rule<N>>(rule: &R, out: &mut [u64; N], mut down: bool)
     ensures { Done (R.sound rule.now) (R.settled rule.now) (R.rows rule.now) out.old out.new }
 {
     while pass(rule, out, down) {
@@ -76,8 +68,8 @@ fn settle<R: Rule>(rule: &R, out: &mut [u64], mut down: bool)
 
 // Whether a row derives the empty word, given the rows that do.
 #[tactic(auto, unfolding(paper::specs::Decide::null_row))]
-fn null_row(nulls: &[u64], r: Row) -> bool
-    requires { (4 ≤ length nulls.now) × SoundRow 1024 256 (as_row r) }
+fn null_row(nulls: &[u64; 4], r: Row) -> bool
+    requires { SoundRow 1024 256 (as_row r) }
     ensures { result ≡ null_row (bit_at nulls.now 0) (as_row r) }
 {
     match r {
@@ -92,43 +84,38 @@ fn null_row(nulls: &[u64], r: Row) -> bool
 // The rule of the rows that derive the empty word.
 #[derive(Clone, Copy)]
 struct Empties<'a> {
-    s: &'a [u8],
-    t: Table,
+    sheet: &'a Sheet<'a>,
 }
 
-impl Rule for Empties<'_> {
-    ghost ready = { λ x. RowsAt x.s.now x.t };
+impl Rule<4> for Empties<'_> {
+    ghost rows = { λ x. x.sheet.now.rows.count };
 
-    ghost rows = { λ x. x.t.count };
+    ghost sound = { λ x. NullSound (grammar_of x.sheet.now.bytes.now) };
 
-    ghost words = { λ x. 4 };
-
-    ghost sound = { λ x. NullSound (grammar_of x.s.now) };
-
-    ghost settled = { λ x. NullSettled (grammar_of x.s.now) };
+    ghost settled = { λ x. NullSettled (grammar_of x.sheet.now.bytes.now) };
 
     fn count(&self) -> usize {
-        self.t.count
+        self.sheet.rows.count
     }
 
-    fn turn(&self, out: &mut [u64], r: usize) -> bool {
-        let row = sheet::row_at(self.s, self.t, r);
+    fn turn(&self, out: &mut [u64; 4], r: usize) -> bool {
+        let row = self.sheet.row(r);
         null_row(out, row) && workspace::mark(out, 0, r)
     }
 }
 
-// The rows that derive the empty word, into entry 0.
-pub fn nulls(s: &[u8], t: Table, out: &mut [u64])
-    requires { RowsAt s.now t × (4 ≤ length out.old) }
-    ensures { Nulls (grammar_of s.now) out.new }
+// The rows that derive the empty word, in entry 0.
+pub fn nulls(sheet: &Sheet) -> [u64; 4]
+    ensures { Nulls (grammar_of sheet.now.bytes.now) result }
 {
-    workspace::wipe(out, 0);
-    settle(&Empties { s, t }, out, false);
+    let mut out = [0; 4];
+    settle(&Empties { sheet }, &mut out, false);
+    out
 }
 
 // The children of a row to which a step leads that keeps the length, given the rows that derive the empty word.
-fn steps_of(nulls: &[u64], r: Row) -> (Option<usize>, Option<usize>)
-    requires { (4 ≤ length nulls.now) × SoundRow 1024 256 (as_row r) }
+fn steps_of(nulls: &[u64; 4], r: Row) -> (Option<usize>, Option<usize>)
+    requires { SoundRow 1024 256 (as_row r) }
     ensures { result ≡ steps_of (bit_at nulls.now 0) (as_row r) }
 {
     match r {
@@ -143,8 +130,8 @@ fn steps_of(nulls: &[u64], r: Row) -> (Option<usize>, Option<usize>)
 }
 
 // Where there is a step from r to p, what reaches r reaches p. Whether something is new.
-fn pass_on(out: &mut [u64], step: Option<usize>, r: usize) -> bool
-    requires { ForSome step (λ p. 4 * p + 4 ≤ length out.old) × (4 * r + 4 ≤ length out.old) }
+fn pass_on(out: &mut [u64; 1024], step: Option<usize>, r: usize) -> bool
+    requires { ForSome step (λ p. p < 256) × (r < 256) }
     ensures { (out.new ≡ passed_on step r out.old) × Grows result out.old out.new }
 {
     match step {
@@ -156,29 +143,25 @@ fn pass_on(out: &mut [u64], step: Option<usize>, r: usize) -> bool
 // The rule of the rows that reach each row: what reaches a row reaches those to which it has a step.
 #[derive(Clone, Copy)]
 struct Reaching<'a> {
-    s: &'a [u8],
-    t: Table,
-    nulls: &'a [u64],
+    sheet: &'a Sheet<'a>,
+    nulls: &'a [u64; 4],
+    ghost empties: { Nulls (grammar_of sheet.now.bytes.now) nulls.now },
 }
 
-impl Rule for Reaching<'_> {
-    ghost ready = { λ x. RowsAt x.s.now x.t × (4 ≤ length x.nulls.now) × Nulls (grammar_of x.s.now) x.nulls.now };
+impl Rule<1024> for Reaching<'_> {
+    ghost rows = { λ x. x.sheet.now.rows.count };
 
-    ghost rows = { λ x. x.t.count };
+    ghost sound = { λ x. ReachSound (grammar_of x.sheet.now.bytes.now) };
 
-    ghost words = { λ x. 4 * x.t.count };
-
-    ghost sound = { λ x. ReachSound (grammar_of x.s.now) };
-
-    ghost settled = { λ x. ReachSettled (grammar_of x.s.now) };
+    ghost settled = { λ x. ReachSettled (grammar_of x.sheet.now.bytes.now) };
 
     fn count(&self) -> usize {
-        self.t.count
+        self.sheet.rows.count
     }
 
-    fn turn(&self, out: &mut [u64], r: usize) -> bool {
-        let row = sheet::row_at(self.s, self.t, r);
-        let (a, b) = steps_of(self.nulls, row);
+    fn turn(&self, out: &mut [u64; 1024], r: usize) -> bool {
+        let nulls = self.nulls;
+        let (a, b) = steps_of(nulls, self.sheet.row(r));
         let x = pass_on(out, a, r);
         let y = pass_on(out, b, r);
         x | y
@@ -186,21 +169,23 @@ impl Rule for Reaching<'_> {
 }
 
 // Each row reaches itself.
-fn start(n: usize, out: &mut [u64])
-    requires { (n ≤ 256) × (4 * n ≤ length out.old) }
-    ensures { Started n out.new }
+fn start(n: usize) -> [u64; 1024]
+    requires { n ≤ 256 }
+    ensures { Started n result }
 {
+    let mut out = [0; 1024];
     for q in 0..n {
-        workspace::wipe(out, q);
-        workspace::set(out, q, q);
+        workspace::set(&mut out, q, q);
     }
+    out
 }
 
-// The rows that reach row q, into entry q.
-pub fn reach(s: &[u8], t: Table, nulls: &[u64], out: &mut [u64])
-    requires { RowsAt s.now t × (4 ≤ length nulls.now) × Nulls (grammar_of s.now) nulls.now × (4 * t.count ≤ length out.old) }
-    ensures { Reached (grammar_of s.now) out.new }
+// The rows that reach row q, in entry q.
+pub fn reach(sheet: &Sheet, nulls: &[u64; 4]) -> [u64; 1024]
+    requires { Nulls (grammar_of sheet.now.bytes.now) nulls.now }
+    ensures { Reached (grammar_of sheet.now.bytes.now) result }
 {
-    start(t.count, out);
-    settle(&Reaching { s, t, nulls }, out, true);
+    let mut out = start(sheet.rows.count);
+    settle(&Reaching { sheet, nulls }, &mut out, true);
+    out
 }

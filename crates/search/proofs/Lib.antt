@@ -1,2 +1,3 @@
 pub mod Lettered
 pub mod Tellings
+pub mod Walking

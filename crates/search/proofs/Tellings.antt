@@ -4,7 +4,7 @@ use Prim.Native.Nat.{ℕ, ◌≤◌}
 use mathlib.Core.Path.{◌≡◌}
 use lib.ListN.{length, take}
 use Rattle.paper.specs.Answers as paper
-use Rattle.walk_state.specs.declared.Prefix.{Prefix}
+use Rattle.walk_state.specs.declared.prefix.Prefix.{Prefix}
 use Rattle.search.specs.declared.Sought.TheVariants.{Found, None, Spent}
 use Rattle.search.specs.Tells.{said_by, Tells}
 

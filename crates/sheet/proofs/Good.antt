@@ -19,7 +19,7 @@ use Rattle.sheet_trailer.specs.Placed.{Trailed, Laid}
 use Rattle.sheet_trailer.proofs.Search.{all_good}
 use Rattle.sheet_trailer.proofs.Tables as tables
 use Rattle.sheet_records.proofs.Kept.{kept, row_sound, part_sound, assertion_sound}
-use Rattle.sheet.specs.Good.{Good, Faultless}
+use Rattle.sheet.specs.Good.{Good}
 
 -- ---- the tests that acceptance passes
 
@@ -110,21 +110,17 @@ terms_at : (s : List ℕ) (o : ℕ) → assert_fits s o ≡ true → (term_fits 
 unfolding assert_fits
 terms_at s o e = (and_left _ _ e, and_right (term_fits s (assertion_at s o).term) _ e)
 
-pub faultless : (takes : Takes) (s : List ℕ) → takes.bytes < 65536 → (refusal takes s).number ≡ 0 → Faultless s
-faultless takes s n e =
+pub good : (takes : Takes) (s : List ℕ) → takes.bytes < 65536 → (refusal takes s).number ≡ 0 → Good s
+good takes s n e =
     let h = heads takes s e in
-    record { trailed = h.trailed; small = omega (arith, h.high); none = h.rest }
-
-pub good_of : {s : List ℕ} → Faultless s → Good s
-good_of {s} f =
-    let t = tails s f.none in
+    let t = tails s h.rest in
     let placed = tables.placed s t.offsets in
     record {
-      trailed = f.trailed;
-      small = f.small;
-      pair = pair_ok s f.none;
-      short = short_ok s f.none;
-      counts = count_ok_lem s f.none;
+      trailed = h.trailed;
+      small = omega (arith, h.high);
+      pair = pair_ok s h.rest;
+      short = short_ok s h.rest;
+      counts = count_ok_lem s h.rest;
       placed = placed;
       room = λ k i l g. tables.room (size k) (offset_of s k) (count_of s k) i (length s) g (placed k l);
       letters = λ i g. letter_at s _ (kept s 0 i t.records (omega arith) g);
@@ -133,6 +129,3 @@ good_of {s} f =
       assertions = λ i g. assertion_sound s _ (kept s 4 i t.records (omega arith) g);
       terms = λ i g. terms_at s _ (all_good (λ k. assert_fits s (record_at s 4 k)) (count_of s 4) i t.terms g);
     }
-
-pub good : (takes : Takes) (s : List ℕ) → takes.bytes < 65536 → (refusal takes s).number ≡ 0 → Good s
-good takes s n e = good_of (faultless takes s n e)

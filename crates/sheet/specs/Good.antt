@@ -4,7 +4,6 @@ use Rattle.paper.specs.Bytes.{u8_at}
 use Rattle.paper.specs.Trailer.{size, least, most, limit, shortest, longest, count_of, record_at}
 use Rattle.paper.specs.Sheet.{row_at, part_at, assertion_at, second_run}
 use Rattle.paper.specs.Records.{term_fits}
-use Rattle.paper.specs.Refusals.{table_refusal}
 use Rattle.paper.proofs.Sound.{SoundRow, SoundPart, SoundAssertion}
 use Rattle.sheet_trailer.specs.Placed.{Trailed, Placed}
 
@@ -22,9 +21,3 @@ pub record Good (s : List ℕ) : Type 0 where
   pub assertions : (i : ℕ) → i < count_of s 4 → SoundAssertion (count_of s 1) (count_of s 2) (count_of s 3) (assertion_at s (record_at s 4 i))
   pub terms : (i : ℕ) → i < count_of s 4
       → (term_fits s (assertion_at s (record_at s 4 i)).term ≡ true) × (term_fits s (second_run (assertion_at s (record_at s 4 i)).claim) ≡ true)
-
--- what acceptance by any call says of the bytes: they are few, there is room for the trailer, and none of 14 to 17 is found
-pub record Faultless (s : List ℕ) : Type 0 where
-  pub trailed : Trailed s
-  pub small : length s < 65536
-  pub none : (table_refusal s).number ≡ 0

@@ -1,3 +1,4 @@
 pub mod Told
 pub mod Good
 pub mod Readers
+pub mod Once

@@ -1,15 +1,17 @@
 // An accepted sheet, and its readers.
-ghost use Rattle.std.specs.Prelude.{◌≡◌};
+ghost use Rattle.std.specs.Prelude.{◌≡◌, ◌&&◌, ◌+◌, ◌≤◌, leb, length};
+ghost use Rattle.paper.specs.Bytes.{OfBytes, u8_at};
 ghost use Rattle.paper.specs.Trailer.{rules_of};
 ghost use Rattle.paper.specs.Trailer as trailer;
 ghost use Rattle.paper.specs.Rules as paper;
-ghost use Rattle.paper.specs.Sheet.{text_of};
+ghost use Rattle.paper.specs.Sheet.{text_of, sheet_of, letter};
 ghost use Rattle.sheet_trailer.specs.Tables.{TableOf};
-ghost use Rattle.sheet.specs.Good.{Faultless};
+ghost use Rattle.sheet.specs.Good.{Good};
+ghost use Rattle.sheet.specs.Once.{good_once};
 
-use crate::{Fault, Takes, first_fault, in_range};
+use crate::{Fault, Takes, first_fault};
 use sheet_contents::{Assertion, Part, Row};
-use sheet_trailer::Table;
+use sheet_trailer::{Table, Trailer};
 
 // The bytes of an accepted sheet, and what its trailer says of them.
 #[derive(Clone, Copy)]
@@ -24,7 +26,8 @@ pub struct Sheet<'a> {
     pub longest: usize,
     // a cut off the end of v is shortened
     pub shortens: bool,
-    pub ghost faultless: { Faultless bytes.now },
+    pub ghost of_bytes: { OfBytes bytes.now },
+    pub ghost good: { Good bytes.now } by { good_once bytes.now },
     pub ghost letters_at: { TableOf bytes.now 0 letters },
     pub ghost text_is: { text.now ≡ text_of bytes.now },
     pub ghost rows_at: { TableOf bytes.now 2 rows },
@@ -35,30 +38,55 @@ pub struct Sheet<'a> {
     pub ghost shortens_is: { shortens ≡ paper.shortens (rules_of bytes.now) },
 }
 
-// What the trailer of such bytes says.
-fn faultless(bytes: &[u8]) -> Sheet<'_>
-    requires { Faultless bytes.now }
-    ensures { result.bytes.now ≡ bytes.now }
+// The text, as a part of the sheet.
+fn text_of<'a>(trailer: &Trailer<'a>) -> &'a [u8]
+    requires { Good trailer.now.sheet.now }
+    ensures { result.now ≡ text_of trailer.now.sheet.now }
 {
-    Sheet {
-        bytes,
-        letters: sheet_trailer::table_of(bytes, 0),
-        text: crate::text_of(bytes),
-        rows: sheet_trailer::table_of(bytes, 2),
-        parts: sheet_trailer::table_of(bytes, 3),
-        assertions: sheet_trailer::table_of(bytes, 4),
-        shortest: sheet_trailer::shortest(bytes),
-        longest: sheet_trailer::longest(bytes),
-        shortens: sheet_trailer::shortens(bytes),
-    }
+    let Table { at, count } = trailer.table_of(1);
+    &trailer.sheet[at..at + count]
+}
+
+// The byte lies in the range at o.
+fn in_range(s: &[u8], o: usize, b: u8) -> bool
+    requires { o + 2 ≤ length s.now }
+    ensures { result ≡ (leb (u8_at s.now o) b && leb b (u8_at s.now (o + 1))) }
+{
+    (s[o]..=s[o + 1]).contains(&b)
+}
+
+// Some range of letters holds the byte.
+fn in_ranges(s: &[u8], letters: Table, b: u8) -> bool
+    requires { Good s.now × TableOf s.now 0 letters }
+    ensures { result ≡ letter (sheet_of s.now) b }
+{
+    (0..letters.count).any(|i| in_range(s, letters.at + 2 * i, b))
 }
 
 impl<'a> Sheet<'a> {
-    ghost use Rattle.std.specs.Prelude.{◌+◌, ◌≤◌, ◌<◌, Err, IfOk, IfErr};
+    ghost use Rattle.std.specs.Prelude.{◌<◌, Err, IfOk, IfErr};
     ghost use Rattle.paper.specs.Refusals.{refusal};
-    ghost use Rattle.paper.specs.Sheet.{sheet_of, letter};
     ghost use Rattle.sheet.specs.Told.{told, taken};
     ghost use Rattle.sheet.specs.Readers.{RowRead, PartRead, AssertionRead};
+
+    // The sheet in good bytes.
+    pub fn of(bytes: &'a [u8]) -> Self
+        requires { Good bytes.now }
+        ensures { result.bytes.now ≡ bytes.now }
+    {
+        let trailer = Trailer { sheet: bytes };
+        Sheet {
+            bytes,
+            letters: trailer.table_of(0),
+            text: text_of(&trailer),
+            rows: trailer.table_of(2),
+            parts: trailer.table_of(3),
+            assertions: trailer.table_of(4),
+            shortest: trailer.shortest(),
+            longest: trailer.longest(),
+            shortens: trailer.shortens(),
+        }
+    }
 
     // The sheet in the bytes, or their first fault, for a call that takes so much.
     pub fn read(bytes: &'a [u8], takes: Takes) -> Result<Self, Fault>
@@ -67,7 +95,14 @@ impl<'a> Sheet<'a> {
         ensures fault { IfErr result (λ fault. Err fault ≡ told (refusal (taken takes) bytes.now)) }
     {
         first_fault(bytes, takes)?;
-        Ok(faultless(bytes))
+        Ok(Sheet::of(bytes))
+    }
+
+    // The trailer.
+    pub fn trailer(&self) -> Trailer<'a>
+        ensures { result.sheet.now ≡ self.now.bytes.now }
+    {
+        Trailer { sheet: self.bytes }
     }
 
     // Row i.
@@ -98,11 +133,6 @@ impl<'a> Sheet<'a> {
     pub fn is_letter(&self, b: u8) -> bool
         ensures { result ≡ letter (sheet_of self.now.bytes.now) b }
     {
-        for i in 0..self.letters.count {
-            if in_range(self.bytes, self.letters.at + 2 * i, b) {
-                return true;
-            }
-        }
-        false
+        in_ranges(self.bytes, self.letters, b)
     }
 }

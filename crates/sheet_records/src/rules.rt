@@ -1,11 +1,13 @@
 // The rule of each record: kind, sign, zero field, order of a pair, reference.
 ghost use Rattle.std.specs.Prelude.{◌≡◌, ◌+◌, ◌≤◌, ◌<◌, length};
-ghost use Rattle.paper.specs.Records.{letter_ok, row_fields, row_ok, part_fields, part_ok, assert_fields, assert_ok};
+ghost use Rattle.paper.specs.Trailer.{size};
+ghost use Rattle.paper.specs.Records.{letter_ok, row_fields, row_ok, part_fields, part_ok, assert_fields, assert_ok, record_ok};
 
 use sheet_contents::{Claim, Part, Row, claim_of, pair_at, part_of, row_of};
+use sheet_trailer::Trailer;
 
 #[tactic(auto, unfolding(paper::specs::Records::letter_ok))]
-pub fn letter_ok(s: &[u8], o: usize) -> bool
+fn letter_ok(s: &[u8], o: usize) -> bool
     requires { o + 2 ≤ length s.now }
     ensures { result ≡ letter_ok s.now o }
 {
@@ -29,7 +31,7 @@ fn row_fields(rows: usize, text: usize, kind: u8, a: usize, b: usize) -> bool
 }
 
 #[tactic(auto, unfolding(paper::specs::Records::row_ok))]
-pub fn row_ok(s: &[u8], o: usize, rows: usize, text: usize) -> bool
+fn row_ok(s: &[u8], o: usize, rows: usize, text: usize) -> bool
     requires { o + 6 ≤ length s.now }
     ensures { result ≡ row_ok s.now o rows text }
 {
@@ -51,7 +53,7 @@ fn part_fields(text: usize, kind: u8, a: usize, b: usize) -> bool
 }
 
 #[tactic(auto, unfolding(paper::specs::Records::part_ok))]
-pub fn part_ok(s: &[u8], o: usize, text: usize) -> bool
+fn part_ok(s: &[u8], o: usize, text: usize) -> bool
     requires { o + 6 ≤ length s.now }
     ensures { result ≡ part_ok s.now o text }
 {
@@ -74,7 +76,7 @@ fn assert_fields(text: usize, rows: usize, parts: usize, kind: u8, a: usize, b: 
 }
 
 #[tactic(auto, unfolding(paper::specs::Records::assert_ok))]
-pub fn assert_ok(s: &[u8], o: usize, text: usize, rows: usize, parts: usize) -> bool
+fn assert_ok(s: &[u8], o: usize, text: usize, rows: usize, parts: usize) -> bool
     requires { o + 12 ≤ length s.now }
     ensures { result ≡ assert_ok s.now o text rows parts }
 {
@@ -84,4 +86,26 @@ pub fn assert_ok(s: &[u8], o: usize, text: usize, rows: usize, parts: usize) -> 
         && first + count <= parts
         && numbers::u16_at(s, o + 10) == 0
         && assert_fields(text, rows, parts, s[o], a, b)
+}
+
+// The record of table t at o.
+#[tactic(auto, unfolding(paper::specs::Records::record_ok))]
+pub fn record_ok(trailer: &Trailer, t: usize, o: usize) -> bool
+    requires { (t < 5) × (o + size t ≤ length trailer.now.sheet.now) }
+    ensures { result ≡ record_ok trailer.now.sheet.now t o }
+{
+    let s = trailer.sheet;
+    match t {
+        0 => letter_ok(s, o),
+        1 => true,
+        2 => row_ok(s, o, trailer.count_of(2), trailer.count_of(1)),
+        3 => part_ok(s, o, trailer.count_of(1)),
+        _ => assert_ok(
+            s,
+            o,
+            trailer.count_of(1),
+            trailer.count_of(2),
+            trailer.count_of(3),
+        ),
+    }
 }

@@ -1,21 +1,20 @@
 #![tactic(auto)]
 
 // The solver: any sheet, any budget, any buffers.
-ghost use Rattle.std.specs.Prelude.{◌≡◌, ◌≤◌, length, take, Ok};
-ghost use Rattle.paper.specs.Trailer.{longest};
+ghost use Rattle.std.specs.Prelude.{◌≡◌, ◌≤◌, length, take, replicate, Ok};
 ghost use Rattle.paper.specs.Sheet.{sheet_of};
-ghost use Rattle.paper.specs.Answers.{written, out_after, work_after, under, walk_of};
+ghost use Rattle.paper.specs.Answers.{words, written, out_after, under, walk_of};
 ghost use Rattle.paper.specs.Promises.{Solves};
-ghost use Rattle.workspace.specs.Within.{Within};
-ghost use Rattle.sheet.specs.Good.{Good};
 ghost use Rattle.search.specs.Tells.{Tells};
 ghost use Rattle.solver.specs.Reported.{solved};
 
+use groundwork::Groundwork;
 use search::Sought;
-use sheet::Fault;
+use sheet::{Fault, Sheet};
 use walk_state::Prefix;
+use workspace::Workspace;
 
-// 0 with the word's length and its trials, 1 with the full count, 2 with the budget.
+// 0 with the word's length and its trials, 1 with the full count, 2 with the budget. The word itself is in the output: `Sought` has it by value.
 #[derive(Clone, Copy)]
 pub enum Solved {
     Found(usize, u64),
@@ -25,34 +24,30 @@ pub enum Solved {
 
 // The word at the start of the output.
 fn put_word(p: Prefix, out: &mut [u8])
-    requires { (p.len ≤ 60) × (p.len ≤ length out.old) }
+    requires { p.len ≤ length out.old }
     ensures { out.new ≡ written (take p.len p.bytes) out.old }
 {
     out[..p.len].copy_from_slice(&p.bytes[..p.len]);
 }
 
 // The sheet's walk under the budget, letters that nothing tells apart passed over.
-fn searched(s: &[u8], budget: u64, work: &mut [u64]) -> Sought
-    requires { Good s.now × (7564 ≤ length work.old) }
-    ensures { Tells (longest s.now) (under budget (walk_of (sheet_of s.now))) result × Within work.old work.new }
+fn searched(sheet: &Sheet, budget: u64, work: &mut Workspace) -> Sought
+    ensures { Tells sheet.now.longest (under budget (walk_of (sheet_of sheet.now.bytes.now))) result }
 {
-    let l = search::letters::letters_of(s);
-    let mut lay = [0u64; groundwork::SIZE];
-    groundwork::lay(s, &l.of, &mut lay);
-    let slots = alike::slots_of(s);
-    let lo = sheet_trailer::shortest(s);
-    let hi = sheet_trailer::longest(s);
-    search::seek(s, l, &slots.of, lo, hi, budget, &lay, work)
+    let letters = search::letters::letters_of(sheet);
+    let g = Groundwork::of(sheet, &letters.of);
+    let slots = alike::slots_of(sheet);
+    search::seek(&g, &slots, budget, work)
 }
 
 // The answer of an accepted sheet, lent enough.
-fn answer(s: &[u8], budget: u64, work: &mut [u64], out: &mut [u8]) -> Solved
-    requires { Good s.now × (7564 ≤ length work.old) × (longest s.now ≤ length out.old) }
-    ensures said { Ok result ≡ solved (under budget (walk_of (sheet_of s.now))) }
-    ensures cleared { work.new ≡ work_after (under budget (walk_of (sheet_of s.now))) work.old }
-    ensures wrote { out.new ≡ out_after (under budget (walk_of (sheet_of s.now))) out.old }
+fn answer(sheet: &Sheet, budget: u64, work: &mut Workspace, out: &mut [u8]) -> Solved
+    requires { sheet.now.longest ≤ length out.old }
+    ensures said { Ok result ≡ solved (under budget (walk_of (sheet_of sheet.now.bytes.now))) }
+    ensures cleared { work.new ≡ replicate words 0 }
+    ensures wrote { out.new ≡ out_after (under budget (walk_of (sheet_of sheet.now.bytes.now))) out.old }
 {
-    let r = searched(s, budget, work);
+    let r = searched(sheet, budget, work);
     workspace::clear(work);
     match r {
         Sought::Found(word, trials) => {
@@ -68,12 +63,12 @@ fn answer(s: &[u8], budget: u64, work: &mut [u64], out: &mut [u8]) -> Solved
 pub fn solve(sheet: &[u8], budget: u64, work: &mut [u64], out: &mut [u8]) -> Result<Solved, Fault>
     ensures { Solves solved sheet.now budget work.old out.old result work.new out.new }
 {
-    sheet::check(sheet)?;
-    if work.len() < paper::WORDS {
+    let accepted = Sheet::read(sheet, sheet::LATEST)?;
+    let Some(work) = work.first_chunk_mut::<{ paper::WORDS }>() else {
         return Err(Fault::Workspace);
-    }
-    if out.len() < sheet_trailer::longest(sheet) {
+    };
+    if out.len() < accepted.longest {
         return Err(Fault::Output);
     }
-    Ok(answer(sheet, budget, work, out))
+    Ok(answer(&accepted, budget, work, out))
 }

@@ -17,9 +17,9 @@ use Rattle.paper.specs.Sheet.{Run, sheet_of, grammar_of, parts_of, text_of}
 use Rattle.paper.specs.Open.{term_on}
 use Rattle.paper.proofs.Tests.{or_right, or_false, all_of_at, at_all_of}
 use Rattle.sheet.proofs.Contents.{parts_length, part_here}
-use Rattle.terms.specs.declared.Places.{Places}
-use Rattle.terms.specs.Shown.{shown, Sized, blank, Added, Readable}
-use Rattle.terms.proofs.Showing.{blank_sized, blank_shown, blank_len}
+use Rattle.workspace.specs.Places.{places_in}
+use Rattle.terms.specs.declared.places.Places.{Places}
+use Rattle.terms.specs.Shown.{shown, Added, Readable}
 
 -- ---- tests in the code's words
 
@@ -45,13 +45,13 @@ abbrev pub InsideTo : List ℕ → (first n i : ℕ) → Type 0
 InsideTo s first n i = (j : ℕ) → j < i → cut_inside (sheet_of s).rules n (get_or (sheet_of s).parts (first + j) All) ≡ true
 
 module _ (s : List ℕ) (r : Run) (run : r.first + r.count ≤ count_of s 3) where
-  pub run_length : length (parts_of (sheet_of s) r) ≡ r.count
+  run_length : length (parts_of (sheet_of s) r) ≡ r.count
   unfolding parts_of
   run_length =
       let l = parts_length s in
       length-take-le r.count (drop r.first (sheet_of s).parts) (rw length-drop (omega arith))
 
-  pub run_at : (i : ℕ) → i < r.count → (d : Part) → get_or (parts_of (sheet_of s) r) i d ≡ get_or (sheet_of s).parts (r.first + i) d
+  run_at : (i : ℕ) → i < r.count → (d : Part) → get_or (parts_of (sheet_of s) r) i d ≡ get_or (sheet_of s).parts (r.first + i) d
   unfolding parts_of
   run_at i h d = get_or-take r.count (drop r.first (sheet_of s).parts) i d h ∙ get_or-drop r.first (sheet_of s).parts i d
 
@@ -93,7 +93,6 @@ term_more s o i = refl
 pub record Joined (s : List ℕ) (v : Places) (r : Run) (i : ℕ) (p : Places) : Type 0 where
   pub within : i ≤ r.count
   pub same : shown p ≡ term Known (text_of s) (shown v) (take i (parts_of (sheet_of s) r))
-  pub sized : Sized p
   pub low : p.len ≤ term_len s (record_at s 3 r.first) i
 
 -- the part of a run that comes next
@@ -130,7 +129,6 @@ module _ (s : List ℕ) (v : Places) (r : Run) (c : Readable s v.len r) where
       record {
         within = omega arith;
         same = d.same ∙ rw (add-one, t, term_snoc (text_of s) (shown v) (take i (parts_of (sheet_of s) r)), j.same, e, run_at s r c.run i h All);
-        sized = d.sized;
         low = rw add-one (omega arith);
       }
 
@@ -140,6 +138,6 @@ module _ (s : List ℕ) (v : Places) (r : Run) (c : Readable s v.len r) where
       let u = run_length s r c.run in
       j.same ∙ ap (term Known (text_of s) (shown v)) (take_all i (parts_of (sheet_of s) r) (omega arith))
 
-pub join_start : (s : List ℕ) (v : Places) (r : Run) → Joined s v r 0 blank
-unfolding term
-join_start s v r = record { within = omega arith; same = blank_shown; sized = blank_sized; low = rw blank_len (omega arith) }
+pub join_start : (s : List ℕ) (v : Places) (r : Run) (p : Places) → p.len ≡ 0 → Joined s v r 0 p
+unfolding shown term places_in
+join_start s v r p e = record { within = omega arith; same = rw e; low = rw e (omega arith) }

@@ -15,8 +15,8 @@ use Rattle.paper.specs.Opens.{meet_from, can_hold}
 use Rattle.paper.proofs.Tests.{any_intro, any_nowhere, all_same}
 use Rattle.workspace.specs.Places.{place_of}
 use Rattle.workspace.proofs.Places.{places_at}
-use Rattle.terms.specs.declared.Places.{Places}
-use Rattle.terms.specs.Shown.{shown, Sized, meet_all}
+use Rattle.terms.specs.declared.places.Places.{Places}
+use Rattle.terms.specs.Shown.{shown, meet_all}
 use Rattle.terms.proofs.Showing.{shown_length}
 
 shown_at : (p : Places) (i : ℕ) → i < p.len → get_or (shown p) i Unknown ≡ place_of (get_or p.of i None)
@@ -44,29 +44,29 @@ module _ (s : Sheet) (p q : Places) where
       go (yes k) = x i k
       go (no k) = let z : e - q.len ≡ i = omega arith in rw z at f
 
-module _ (s : Sheet) (p q : Places) (zp : Sized p) (zq : Sized q) where
+module _ (s : Sheet) (p q : Places) where
   stands_is : (i : ℕ) → i + q.len ≤ p.len → meet_from s (shown p) i (shown q) ≡ stands s p q i
   unfolding meet_all meet_from
   stands_is i h =
-      let r = zp.room in
-      let l = zp.long in
+      let r = p.room in
+      let l = p.long in
       let n = length-take-le q.len (drop i p.of) (rw length-drop (omega arith)) in
-      rw (shown_length q zq, n)
+      rw (shown_length q, n)
       (all_same q.len _ _ (λ j k. rw (shown_at p (i + j) (omega arith), shown_at q j k, get_or-take q.len (drop i p.of) j None k, get_or-drop i p.of j None, get_or-take q.len q.of j None k)))
 
   pub lengths_differ : p.len ≢ q.len → (a b : ℕ) → false ≡ can_hold s (Equals a b) (shown p) (shown q)
   unfolding can_hold
-  lengths_differ h a b = rw (shown_length p zp, shown_length q zq, ne_eqb p.len q.len h)
+  lengths_differ h a b = rw (shown_length p, shown_length q, ne_eqb p.len q.len h)
 
   pub lengths_same : p.len ≡ q.len → (x : Bool) → x ≡ meet_all s (take p.len p.of) (take q.len q.of) → (a b : ℕ) → x ≡ can_hold s (Equals a b) (shown p) (shown q)
   unfolding can_hold
-  lengths_same e x h a b = rw (shown_length p zp, shown_length q zq, eq-eqb p.len q.len e) (rw e at h ∙ sym (stands_is 0 (omega arith)))
+  lengths_same e x h a b = rw (shown_length p, shown_length q, eq-eqb p.len q.len e) (rw e at h ∙ sym (stands_is 0 (omega arith)))
 
   pub stands_here : (i : ℕ) → i + q.len ≤ p.len → stands s p q i ≡ true → (a b : ℕ) → true ≡ can_hold s (ContainsTerm a b) (shown p) (shown q)
   unfolding can_hold
-  stands_here i h e a b = rw (shown_length p zp, shown_length q zq) (sym (any_intro (suc p.len - q.len) _ i (omega arith) (stands_is i h ∙ e)))
+  stands_here i h e a b = rw (shown_length p, shown_length q) (sym (any_intro (suc p.len - q.len) _ i (omega arith) (stands_is i h ∙ e)))
 
   pub stands_nowhere : (e : ℕ) → p.len < e → NowhereTo s p q e → (a b : ℕ) → false ≡ can_hold s (ContainsTerm a b) (shown p) (shown q)
   unfolding can_hold
   stands_nowhere e l h a b =
-      rw (shown_length p zp, shown_length q zq) (sym (any_nowhere (suc p.len - q.len) _ (λ j k. stands_is j (omega arith) ∙ h j (omega arith))))
+      rw (shown_length p, shown_length q) (sym (any_nowhere (suc p.len - q.len) _ (λ j k. stands_is j (omega arith) ∙ h j (omega arith))))

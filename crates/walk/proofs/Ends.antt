@@ -10,7 +10,7 @@ use lib.ListN.{take, get_or}
 use Rattle.paper.specs.Walk.{Walked, found, none, plus, then, count, rising, every, tree, walk}
 use Rattle.paper.specs.Answers.{Found, None, Spent, whole, under}
 use Rattle.paper.proofs.Budget.{count_tree, under_above, under_within}
-use Rattle.walk_state.specs.declared.State.{State}
+use Rattle.walk_state.specs.declared.state.State.{State}
 use Rattle.paper.proofs.Budget.{count_plus, count_then}
 use Rattle.walk.specs.Counts.{Counts}
 use Rattle.walk.specs.Progress.{At, Done, Knows, Judging, Landed, Over}

@@ -1,7 +1,7 @@
 -- How far the walk has come, read from the prefix at hand and the trials at which each of its prefixes was begun.
 use Rattle.std.specs.Prelude.{◌≡◌, ℕ, zero, suc, ◌+◌, ◌-◌, ◌≤◌, ◌<◌, Bool, List, [], ◌∷◌, ◌++◌, take, get_or, Some}
 use Rattle.paper.specs.Walk.{Walked, none, plus, then, count, rising, tree}
-use Rattle.walk_state.specs.declared.State.{State}
+use Rattle.walk_state.specs.declared.state.State.{State}
 use Rattle.walk.specs.Counts.{Counts, count_at}
 
 -- bytes that no judgement tells apart: wherever the one stands in a prefix, the other is as good

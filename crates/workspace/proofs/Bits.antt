@@ -175,25 +175,8 @@ module _ (ws : List ℕ) (s : ℕ) (from : List ℕ) (q : ℕ) where
   unfolding joined
   drop_joined n h = drop_four ws s _ _ _ _ n h
 
--- ---- the first n words are zeroed
+-- ---- all words are zero
 
-module _ (n : ℕ) (ws : List ℕ) where
-  pub length_zeroed : n ≤ length ws → length (zeroed n ws) ≡ length ws
-  unfolding zeroed
-  length_zeroed h = simp (length-append, length-replicate, length-drop) (omega arith)
-
-  -- a zeroed table has no bits
-  pub zeroed_bit : (s r : ℕ) → 4 * s + 4 ≤ n → bit_at (zeroed n ws) s r ≡ false
-  unfolding zeroed
-  zeroed_bit s r h =
-      no_word (zeroed n ws) s r
-      (λ l. get_or-append (replicate n 0) (drop n ws) 0 (4 * s + r / 64) (rw (length-replicate {A = ℕ} n 0) (omega arith)) ∙ get_or-replicate n (4 * s + r / 64) 0 0 (omega arith))
-
-  pub drop_zeroed : drop n (zeroed n ws) ≡ drop n ws
-  unfolding zeroed
-  drop_zeroed = drop_at (replicate n 0) (drop n ws) n (length-replicate n 0)
-
-  -- zeroing is told by what lies past it
-  pub zeroed_same : (x : List ℕ) → drop n x ≡ drop n ws → zeroed n x ≡ zeroed n ws
-  unfolding zeroed
-  zeroed_same x e = ap (λ l. replicate n 0 ++ l) e
+-- a cleared table has no bits
+pub cleared_bit : (n s r : ℕ) → 4 * s + 4 ≤ n → bit_at (replicate n 0) s r ≡ false
+cleared_bit n s r h = no_word (replicate n 0) s r (λ l. get_or-replicate n (4 * s + r / 64) 0 0 (omega arith))

@@ -2,14 +2,17 @@
 
 // The lent workspace: a bit for each row (0 to 255) and each span of a term, four words a span.
 // The same words and bits serve for a set of rows (four words) and for a set of rows a row (1,024 words).
-// A table is a flat slice, no slice of four words each: C lends words, and the groundwork keeps others behind its sets.
-ghost use Rattle.std.specs.Prelude.{◌≡◌, ℕ, ◌+◌, ◌*◌, ◌≤◌, ◌<◌, length, slice_index};
-ghost use Rattle.paper.specs.Answers.{words, zeroed};
+// A table is a flat slice, no slice of four words each: C lends words, and paper 01 names the form.
+ghost use Rattle.std.specs.Prelude.{◌≡◌, ℕ, ◌+◌, ◌*◌, ◌≤◌, ◌<◌, length, slice_index, replicate};
+ghost use Rattle.paper.specs.Answers.{words};
 ghost use Rattle.workspace.specs.Spans.{span_at};
 ghost use Rattle.workspace.specs.Bits.{bit_at, set_bit, put_bit, words_at, four_at, either_of, wiped, copied, joined, none_at};
 ghost use Rattle.workspace.specs.Room.{Grows};
 ghost use Rattle.workspace.specs.Where.{PutWhere};
 ghost use Rattle.workspace.specs.Scan.{in_both, FirstOf};
+
+// The words that a call is lent for its charts: their number is the type's.
+pub type Workspace = [u64; paper::WORDS];
 
 // The number of the span of m places from place i on.
 pub fn span(i: usize, m: usize) -> usize
@@ -90,7 +93,7 @@ pub fn next(ws: &[u64], a: usize, b: usize, p: usize, n: usize) -> Option<usize>
     None
 }
 
-// The words of span s.
+// The words of span s, one by one as `put_four` has them.
 fn four(ws: &[u64], s: usize) -> [u64; 4]
     requires { 4 * s + 4 ≤ length ws.now }
     ensures { result ≡ words_at ws.now s }
@@ -146,7 +149,7 @@ pub fn join(ws: &mut [u64], s: usize, from: &[u64], q: usize)
     put_four(ws, s, either(four(ws, s), four(from, q)));
 }
 
-// Row r into span s. Whether it is new there.
+// Row r into span s. Whether it is new there: `set` does not look, since a chart's writes are many.
 pub fn mark(ws: &mut [u64], s: usize, r: usize) -> bool
     requires { (4 * s + 4 ≤ length ws.old) × (r < 256) }
     ensures { (ws.new ≡ set_bit ws.old s r) × Grows result ws.old ws.new }
@@ -175,10 +178,9 @@ pub fn merge(ws: &mut [u64], s: usize, q: usize) -> bool
     true
 }
 
-// The first 7,564 words to zero: what solver and gate leave.
-pub fn clear(ws: &mut [u64])
-    requires { 7564 ≤ length ws.old }
-    ensures { ws.new ≡ zeroed words ws.old }
+// All words to zero: what solver and gate leave.
+pub fn clear(ws: &mut Workspace)
+    ensures { ws.new ≡ replicate words 0 }
 {
-    ws[..paper::WORDS].fill(0);
+    ws.fill(0);
 }

@@ -12,9 +12,12 @@ pub loop-b-preserved : goal.loop-b-preserved
 loop-b-preserved c =
     let l = c.loop-b in
     elim c.match-place_for.branch [
-      | in-Some w ↦ rw (w.slots-is, w.owners-is) (slotted_more _ _ _ _ _ l.invariant w.in-Some.k w.in-Some.ensures (omega arith))
-      | in_default w ↦ rw (w.slots-is, w.owners-is) (slotted_same _ _ _ _ _ l.invariant)
+      | in-Some w ↦ rw (w.of-is, w.owners-is) (slotted_more _ _ _ _ _ l.invariant w.in-Some.k w.in-Some.ensures (omega arith))
+      | in_default w ↦ rw (w.of-is, w.owners-is) (slotted_same _ _ _ _ _ l.invariant)
     ]
 
 pub returns : goal.returns
 returns c = slotted_given _ _ _ _ _ c.loop-b.invariant
+
+pub invariant_of-result : goal.invariant_of-result
+invariant_of-result c = record { small = c.loop-b.invariant.below }

@@ -3,4 +3,4 @@ use Rattle.alike.proofs.given.Given as goal
 
 -- the first b bytes have their slots
 abbrev pub invariant-loop-b : goal.invariant-loop-b
-invariant-loop-b l = Slotted l.ws l.free l.owners l.slots.of l.b
+invariant-loop-b l = Slotted l.ws l.free l.owners l.of l.b

@@ -4,4 +4,4 @@ use Rattle.alike.proofs.letters.Given as goal
 
 -- of the bytes below b letters alone may have a slot
 abbrev pub invariant-loop-b : goal.invariant-loop-b
-invariant-loop-b l = Letters (sheet_of l.s) l.b l.may-items
+invariant-loop-b l = Letters (sheet_of l.sheet.bytes.now) l.b l.may-items

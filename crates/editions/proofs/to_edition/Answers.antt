@@ -1,34 +1,35 @@
 use mathlib.Core.Path.{◌≡◌, sym, ◌∙◌}
 use native.Mathlib.Omega.{arith}
 use Rattle.std.proofs.lemmas.Result.{err_from_is_err_and}
+use Rattle.paper.specs.Rules.{no_rule}
+use Rattle.paper.specs.Trailer.{rules_of}
 use Rattle.paper.specs.Refusals.{refusal}
 use Rattle.paper.specs.Editions.{from, only}
-use Rattle.sheet.proofs.Good.{good}
-use Rattle.sheet.proofs.Telling.{told_ok}
 use Rattle.editions.specs.Puts.{moving}
 use Rattle.editions.proofs.Answers.{to_known, refuses_sheet, refuses_rule, moves_put}
-use Rattle.editions.proofs.to_edition.Goals.{In_ok-first_fault}
+use Rattle.editions.proofs.to_edition.Goals.{In_ok-accepted, After-no_rule}
 use Rattle.editions.proofs.to_edition.Goals as goal
 
-pub returns-in_err-first_fault : goal.returns-in_err-first_fault
-returns-in_err-first_fault c =
+pub returns-in_err-accepted : goal.returns-in_err-accepted
+returns-in_err-accepted c =
     let p = err_from_is_err_and c.from_residual.result c.from_residual.ensures.1 in
-    rw (p.1, p.2) (refuses_sheet (moving c.args.wanted) c.args.sheet.now c.args.out.now _ (rw c.requires.0 at c.in_err-first_fault.ensures))
+    rw (p.1, p.2) (refuses_sheet (moving c.args.wanted) c.args.sheet.now c.args.out.now _ (rw c.requires.0 at c.in_err-accepted.ensures.fault))
 
 -- no fault was found
-accepted : (c : In_ok-first_fault) → (refusal (only (from (moving c.args.wanted))) c.args.sheet.now).number ≡ 0
-accepted c = told_ok _ (rw c.requires.0 at c.in_ok-first_fault.ensures)
+accepted : (c : In_ok-accepted) → (refusal (only (from (moving c.args.wanted))) c.args.sheet.now).number ≡ 0
+accepted c = rw c.requires.0 at c.in_ok-accepted.ensures.sheet.1
 
-pub no_rule-requires : goal.no_rule-requires
-no_rule-requires c = (good (only (from (moving c.args.wanted))) _ (omega arith) (accepted c)).trailed
+-- the rules are those of the bytes given
+rules : (c : After-no_rule) → c.no_rule.result ≡ no_rule (rules_of c.args.sheet.now)
+rules c = rw (c.trailer.ensures, c.in_ok-accepted.ensures.sheet.0) at c.no_rule.ensures
 
 pub returns-then-not-no_rule : goal.returns-then-not-no_rule
-returns-then-not-no_rule c = refuses_rule (moving c.args.wanted) c.args.sheet.now c.args.out.now (accepted (goal.at.returns-then-not-no_rule c).In_ok-first_fault) (sym c.no_rule.ensures ∙ c.if-not-no_rule.true)
+returns-then-not-no_rule c = refuses_rule (moving c.args.wanted) c.args.sheet.now c.args.out.now (accepted (goal.at.returns-then-not-no_rule c).In_ok-accepted) (sym (rules (goal.at.returns-then-not-no_rule c).After-no_rule) ∙ c.if-not-no_rule.true)
 
 pub put-requires : goal.put-requires
 put-requires c =
     let k = to_known (moving c.args.wanted) in
-    (good (only (from (moving c.args.wanted))) _ (omega arith) (accepted (goal.at.put-requires c).In_ok-first_fault), omega (arith, k, c.requires.1), omega (arith, k, c.requires.1))
+    (omega (arith, k, c.requires.1), omega (arith, k, c.requires.1))
 
 pub returns : goal.returns
-returns c = moves_put (moving c.args.wanted) c.args.sheet.now c.args.out.now _ _ (accepted (goal.at.returns c).In_ok-first_fault) (sym c.no_rule.ensures ∙ c.if-not-no_rule.false) (rw c.requires.1 at c.put.ensures)
+returns c = moves_put (moving c.args.wanted) c.args.sheet.now c.args.out.now _ _ (accepted (goal.at.returns c).In_ok-accepted) (sym (rules (goal.at.returns c).After-no_rule) ∙ c.if-not-no_rule.false) (rw c.in_ok-accepted.ensures.sheet.0 at (rw c.requires.1 at c.put.ensures))

@@ -1,5 +1,4 @@
 use mathlib.Core.Path.{sym, ◌∙◌}
-use Rattle.chart.proofs.Filling.{within_none}
 use Rattle.judge.proofs.Holding.{keeps_on}
 use Rattle.judge.proofs.Judging.{outside_first, outside_second, inside_both}
 use Rattle.judge.proofs.possible.Goals as goal
@@ -12,18 +11,16 @@ returns-then-not-inside c =
         | then-not-inside-via-then-not-inside w ↦ outside_first _ _ _ c.second_run-second.ensures _ _ (sym w.if-not-inside.true ∙ c.inside.ensures)
         | then-not-inside-via-else-not-inside+then-not-inside-2 w ↦ outside_second _ _ _ c.second_run-second.ensures _ _ (sym w.if-not-inside.false ∙ c.inside.ensures) (sym w.if-not-inside-2.true ∙ w.inside-else-not-inside.ensures)
       ];
-      within = within_none _;
-      keeps = c.requires.5;
+      keeps = c.requires.2;
     }
 
 pub returns : goal.returns
 returns c =
     let x = c.can_be.ensures in
-    let t = c.term-p.ensures.0 in
+    let t = c.term-p.ensures in
     let first = sym c.if-not-inside.false ∙ c.inside.ensures in
     let second = sym c.if-not-inside-2.false ∙ c.inside-else-not-inside.ensures in
     record {
-      right = inside_both _ _ _ c.second_run-second.ensures _ _ _ _ _ first second t c.term-q.ensures.0 x.0;
-      within = x.1.within;
-      keeps = keeps_on _ _ _ _ t _ _ c.requires.5 _ _ x.1;
+      right = inside_both _ _ _ c.second_run-second.ensures _ _ _ _ _ first second t c.term-q.ensures x.0;
+      keeps = keeps_on _ _ _ _ t _ _ c.requires.2 _ _ x.1;
     }

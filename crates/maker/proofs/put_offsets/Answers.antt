@@ -1,4 +1,6 @@
+use Prim.Native.Nat.{◌+◌}
 use native.Mathlib.Omega.{arith}
+use Rattle.std.proofs.lemmas.List.{get_or-take}
 use Rattle.maker_groups.proofs.Writing.{gather_none, gather_turn}
 use Rattle.maker.specs.Trailer.{offset_bytes}
 use Rattle.maker.proofs.Answers.{offsets_size}
@@ -14,4 +16,7 @@ put_u32-p-requires c =
 
 pub loop-x-preserved : goal.loop-x-preserved
 unfolding offset_bytes
-loop-x-preserved c = gather_turn (offset_bytes c.args.offsets.now) c.loop-x.x-index c.loop-x.invariant c.put_u32-p.ensures.0
+loop-x-preserved c =
+    let a = c.args in
+    let l = c.loop-x in
+    gather_turn (offset_bytes a.offsets.now) l.x-index l.invariant (rw (get_or-take (a.plan.now.n + 1) a.offsets.now l.x-index 0 (omega arith)) at c.put_u32-p.ensures.0)

@@ -6,4 +6,4 @@ use Rattle.rows.proofs.nulls.Goals as goal
 pub returns : goal.returns
 returns c =
     let p = c.settle.ensures in
-    null_end _ _ (p.sound (rw c.wipe.ensures (null_start _ _ c.requires.1))) (λ r h. p.rows r (omega (arith, h, rows_all c.requires.0.table)))
+    null_end _ _ (p.sound (null_start _ 4)) (λ r h. p.rows r (omega (arith, h, rows_all c.args.sheet.now.rows_at)))

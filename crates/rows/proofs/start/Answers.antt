@@ -1,10 +1,13 @@
-use mathlib.Core.Path.{ap, ◌∙◌}
-use Rattle.workspace.specs.Bits.{set_bit}
-use Rattle.rows.proofs.ReachLaws.{started_more}
+use mathlib.Core.Path.{refl, ◌∙◌}
 use native.Mathlib.Omega.{arith}
+use Rattle.workspace.proofs.Bits.{length_set_bit}
+use Rattle.rows.proofs.ReachLaws.{started_none, started_more}
 use Rattle.rows.proofs.start.Goals as goal
+
+pub loop-q-init : goal.loop-q-init
+loop-q-init c = (refl, started_none 1024)
 
 pub loop-q-preserved : goal.loop-q-preserved
 loop-q-preserved c =
     let l = c.loop-q in
-    rw (c.set.ensures ∙ ap (λ x. set_bit x l.q l.q) c.wipe.ensures) (started_more l.q l.out (omega arith) (omega arith) l.invariant)
+    rw c.set.ensures (length_set_bit l.out l.q l.q ∙ l.invariant.0, started_more l.q l.out (omega arith) (omega (arith, l.invariant.0)) l.invariant.1)

@@ -1,36 +1,46 @@
+use mathlib.Core.Path.{◌≡◌}
+use mathlib.Core.List.{◌++◌}
+use lib.ListN.{drop}
 use native.Mathlib.Omega.{arith}
+use Rattle.std.proofs.lemmas.List.{take-append-drop}
 use Rattle.std.proofs.lemmas.Result.{err_from_is_err_and}
-use Rattle.paper.specs.Refusals.{plain, latest}
+use Rattle.paper.specs.Trailer.{longest}
+use Rattle.paper.specs.Refusals.{plain}
 use Rattle.sheet.specs.declared.Fault.TheVariants as case
-use Rattle.sheet.proofs.Good.{good}
-use Rattle.sheet.proofs.Telling.{told_back, told_ok, told_err, told_fault}
-use Rattle.solver.proofs.Solving.{refusing, answering, says_sheet, says_18, says_19, says_answer}
+use Rattle.sheet.proofs.Telling.{told_back, told_err, told_fault}
+use Rattle.solver.proofs.Solving.{refusing, answering, cleared_same, says_sheet, says_18, says_19, says_answer}
+use Rattle.solver.proofs.solve.Goals.{In_ok-accepted}
 use Rattle.solver.proofs.solve.Goals as goal
 
-pub returns-in_err-check : goal.returns-in_err-check
-returns-in_err-check c =
+-- the longest length that is read is the sheet's
+read_longest : (c : In_ok-accepted) → c.in_ok-accepted.accepted.longest ≡ longest c.args.sheet.now
+read_longest c = rw (← c.in_ok-accepted.ensures.sheet.0) c.in_ok-accepted.accepted.longest_is
+
+pub returns-in_err-accepted : goal.returns-in_err-accepted
+returns-in_err-accepted c =
     let a = c.args in
+    let f = c.in_err-accepted.ensures.fault in
     let p = err_from_is_err_and c.from_residual.result c.from_residual.ensures.1 in
-    rw (p.1, p.2) (refusing _ _ _ _ _ _ (says_sheet a.sheet.now a.budget a.work.now a.out.now (told_err _ c.in_err-check.ensures)) (told_fault _ c.in_err-check.ensures))
+    rw (p.1, p.2) (refusing _ _ _ _ _ _ (says_sheet a.sheet.now a.budget a.work.now a.out.now (told_err _ f)) (told_fault _ f))
 
-pub returns-then-work-lt-WORDS : goal.returns-then-work-lt-WORDS
-returns-then-work-lt-WORDS c =
+pub returns-in_default : goal.returns-in_default
+returns-in_default c =
     let a = c.args in
-    refusing _ _ _ _ _ _ (says_18 a.sheet.now a.budget a.work.now a.out.now (told_ok _ c.in_ok-check.ensures) c.if-work-lt-WORDS.true) (told_fault (plain 18) (told_back case.Workspace))
+    refusing _ _ _ _ _ _ (says_18 a.sheet.now a.budget a.work.now a.out.now c.in_ok-accepted.ensures.sheet.1 c.in_default.ensures.cases) (told_fault (plain 18) (told_back case.Workspace))
 
-pub longest-requires : goal.longest-requires
-longest-requires c = (good latest _ (omega arith) (told_ok _ c.in_ok-check.ensures)).trailed
-
-pub returns-then-out-longest : goal.returns-then-out-longest
-returns-then-out-longest c =
+pub returns-then-out-accepted : goal.returns-then-out-accepted
+returns-then-out-accepted c =
     let a = c.args in
-    refusing _ _ _ _ _ _ (says_19 a.sheet.now a.budget a.work.now a.out.now (told_ok _ c.in_ok-check.ensures) c.if-work-lt-WORDS.false (omega (arith, c.if-out-longest.true, c.longest.ensures.0))) (told_fault (plain 19) (told_back case.Output))
-
-pub answer-requires : goal.answer-requires
-answer-requires c = (good latest _ (omega arith) (told_ok _ c.in_ok-check.ensures), omega (arith, c.if-work-lt-WORDS.false), omega (arith, c.if-out-longest.false, c.longest.ensures.0))
+    let e = c.in-Some.ensures.cases in
+    let long = read_longest (goal.at.returns-then-out-accepted c).In_ok-accepted in
+    let same : c.in-Some.work.now ++ drop 7564 a.work.now ≡ a.work.now = rw e.same (take-append-drop 7564 a.work.now) in
+    rw same (refusing _ _ _ _ _ _ (says_19 a.sheet.now a.budget a.work.now a.out.now c.in_ok-accepted.ensures.sheet.1 e.enough (omega (arith, c.if-out-accepted.true, long))) (told_fault (plain 19) (told_back case.Output)))
 
 pub returns : goal.returns
 returns c =
     let a = c.args in
-    let e = says_answer a.sheet.now a.budget a.work.now a.out.now (told_ok _ c.in_ok-check.ensures) c.if-work-lt-WORDS.false (omega (arith, c.if-out-longest.false, c.longest.ensures.0)) in
-    answering _ _ _ _ _ _ _ e (c.answer.ensures.said, (c.answer.ensures.cleared, c.answer.ensures.wrote))
+    let e = c.in-Some.ensures.cases in
+    let long = read_longest (goal.at.returns c).In_ok-accepted in
+    let x = rw c.in_ok-accepted.ensures.sheet.0 at c.answer.ensures in
+    let said = says_answer a.sheet.now a.budget a.work.now a.out.now c.in_ok-accepted.ensures.sheet.1 e.enough (omega (arith, c.if-out-accepted.false, long)) in
+    answering _ _ _ _ _ _ _ said (x.said, (cleared_same a.sheet.now a.budget a.work.now _ x.cleared, x.wrote))

@@ -6,7 +6,10 @@ use borrow.Author.Rules.{rules}
 use Rattle.sheet.proofs.Contents.{text_length}
 use Rattle.terms.proofs.constant.Goals as goal
 
+pub overflow_add-a : goal.overflow_add-a
+overflow_add-a c = omega (arith, (c.args.sheet.now.good.counts 1 (omega arith)).1, c.requires.1)
+
 pub slice_bounds-known-end : goal.slice_bounds-known-end
 slice_bounds-known-end c =
-    let h : c.args.a + c.args.b ≤ length c.text_of-t.result.now = omega (arith, ap length c.text_of-t.ensures, text_length _ c.requires.0, c.requires.2) in
+    let h : c.args.a + c.args.b ≤ length c.args.sheet.now.text.now = omega (arith, ap length c.args.sheet.now.text_is, text_length _ c.args.sheet.now.good, c.requires.1) in
     search rules

@@ -8,7 +8,7 @@ use Rattle.terms.proofs.cut_past.Goals as goal
 
 pub returns-then-a-b : goal.returns-then-a-b
 unfolding sheet_of
-returns-then-a-b c = cut_over_rule _ _ _ _ c.if-a-b.true ∙ sym c.shortens.ensures ∙ sym (not_not c.shortens.result)
+returns-then-a-b c = cut_over_rule _ _ _ _ c.if-a-b.true ∙ sym c.args.sheet.now.shortens_is ∙ sym (not_not c.args.sheet.now.shortens)
   where
     not_not : (b : Bool) → not (not b) ≡ b
     not_not true = refl

@@ -1,13 +1,13 @@
 use Prim.Native.Nat.{◌+◌, ◌<◌, ◌≤◌}
 use mathlib.Core.Path.{◌≡◌, sym, ap, ◌∙◌}
 use native.Mathlib.Omega.{arith}
+use native.Mathlib.Nat.{zero-add}
 use native.Mathlib.Numerals.{add-one}
 use lib.ListN.{length, get_or, set, replicate}
-use lib.Seq.{paste, paste-suc}
+use lib.Seq.{paste, paste-suc, take-length}
 use Rattle.std.specs.Prelude.{ℕ, Option, Some, None, List}
-use Rattle.std.proofs.lemmas.List.{get_or-map}
-use Rattle.terms.specs.declared.Places.{Places}
-use Rattle.terms.specs.Shown.{blank, known_places, pasted_of}
+use Rattle.std.proofs.lemmas.List.{get_or-map, drop-replicate}
+use Rattle.terms.specs.Shown.{known_places}
 use Rattle.terms.proofs.Showing.{known_length}
 use Rattle.terms.proofs.known.Goals as goal
 
@@ -29,11 +29,8 @@ pub loop-i-preserved : goal.loop-i-preserved
 loop-i-preserved c = ap (λ (of : List (Option ℕ)). set of c.loop-i.i (Some (get_or c.args.bytes.now c.loop-i.i 0))) c.loop-i.invariant ∙ turn c.args.bytes.now c.loop-i.i c.loop-i-test.true c.requires
 
 pub returns : goal.returns
-unfolding pasted_of blank
 returns c =
     let s = c.args.bytes.now in
     let k = known_length s in
-    let e : c.loop-i.i ≡ length (known_places s) = omega arith in
-    let z : length s ≡ 0 + length (known_places s) = omega arith in
-    let made : List (Option ℕ) → ℕ → Places = λ of n. record { of = of; len = n } in
-    ap (λ (of : List (Option ℕ)). made of (length s)) (c.loop-i.invariant ∙ ap (λ (n : ℕ). paste (replicate 60 None) 0 (known_places s) n) e) ∙ ap (made _) z
+    let e : c.loop-i.i ≡ length s = omega arith in
+    c.loop-i.invariant ∙ rw (e, ← k, take-length (known_places s), zero-add (length (known_places s)), drop-replicate {X = Option ℕ} (length (known_places s)) 60 None)

@@ -4,4 +4,4 @@ use Rattle.terms.proofs.term.Given as goal
 
 -- p has the places of the first i parts
 abbrev pub invariant-loop-i : goal.invariant-loop-i
-invariant-loop-i l = Joined l.s l.v (as_run l.r) l.i l.p
+invariant-loop-i l = Joined l.sheet.bytes.now l.v (as_run l.r) l.i l.p

@@ -1,12 +1,11 @@
-use mathlib.Core.Path.{ap, ◌∙◌}
-use mathlib.Core.List.{◌++◌}
-use lib.ListN.{drop, replicate}
-use lib.Seq.{length-take-le}
-use Rattle.paper.specs.Answers.{words, zeroed}
+use mathlib.Core.Path.{◌≡◌, ap, ◌∙◌}
+use lib.ListN.{length, replicate}
+use borrow.Author.Rules.{rules}
+use Rattle.paper.specs.Answers.{words}
 use Rattle.workspace.proofs.clear.Goals as goal
 
 pub returns : goal.returns
-unfolding words zeroed
+unfolding words
 returns c =
-    let ws = c.args.ws.now in
-    ap (λ l. l ++ drop 7564 ws) (c.fill.ensures.after (λ y h. h) ∙ ap (λ n. replicate n 0) (length-take-le 7564 ws c.requires))
+    let long : length c.args.ws.now ≡ 7564 = search rules in
+    c.fill.ensures.after (λ y h. h) ∙ ap (λ n. replicate n 0) long

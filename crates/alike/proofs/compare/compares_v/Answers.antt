@@ -7,8 +7,8 @@ use Rattle.alike.proofs.compare.compares_v.Goals as goal
 
 pub returns-then-uses_v : goal.returns-then-uses_v
 unfolding compares_v
-returns-then-uses_v c = let told = assertion_told _ _ _ (record_below c.requires.2 c.requires.3) c.assertion_at-a.ensures in rw (← told) (grind (arith, common_steps))
+returns-then-uses_v c = let told = assertion_told _ _ _ (record_below c.args.sheet.now.assertions_at c.requires) c.assertion-a.ensures in rw (← told) (grind (arith, common_steps))
 
 pub returns-else-uses_v : goal.returns-else-uses_v
 unfolding compares_v
-returns-else-uses_v c = let told = assertion_told _ _ _ (record_below c.requires.2 c.requires.3) c.assertion_at-a.ensures in rw (← told) (grind (arith, common_steps))
+returns-else-uses_v c = let told = assertion_told _ _ _ (record_below c.args.sheet.now.assertions_at c.requires) c.assertion-a.ensures in rw (← told) (grind (arith, common_steps))

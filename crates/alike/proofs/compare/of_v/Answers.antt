@@ -8,8 +8,8 @@ use Rattle.alike.proofs.compare.of_v.Goals as goal
 
 pub returns-in-Const : goal.returns-in-Const
 unfolding of_v
-returns-in-Const c = let told = part_told _ _ _ (record_below c.requires.1 c.requires.2) c.part_at.ensures in rw (← told) (grind (arith, common_steps))
+returns-in-Const c = let told = part_told _ _ _ (record_below c.args.sheet.now.parts_at c.requires) c.part.ensures in rw (← told) (grind (arith, common_steps))
 
 pub returns-in-All : goal.returns-in-All
 unfolding of_v
-returns-in-All c = let told = part_told _ _ _ (record_below c.requires.1 c.requires.2) c.part_at.ensures in rw (← told) (grind (arith, common_steps))
+returns-in-All c = let told = part_told _ _ _ (record_below c.args.sheet.now.parts_at c.requires) c.part.ensures in rw (← told) (grind (arith, common_steps))

@@ -9,8 +9,8 @@ use Rattle.alike.proofs.compare.some_compares.Goals as goal
 
 pub returns : goal.returns
 returns c =
-    let s = c.args.s.now in
+    let s = c.args.sheet.now.bytes.now in
     any_from_yields_List (compares_at s) _ _ c.any.result c.any.ensures.ran
-    (YieldsList-from_range 0 c.table_of-assertions.result.count (count_of s 4) refl (omega (arith, c.table_of-assertions.ensures.0.counts)))
+    (YieldsList-from_range 0 c.args.sheet.now.assertions.count (count_of s 4) refl (omega (arith, c.args.sheet.now.assertions_at.counts)))
     (λ x b q k. search rules)
     ∙ some_any s

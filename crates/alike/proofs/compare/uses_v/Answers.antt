@@ -10,5 +10,5 @@ use Rattle.alike.proofs.compare.uses_v.Goals as goal
 pub returns : goal.returns
 returns c =
     let r = c.args.r in
-    any_from_yields_List (of_v_at c.args.s.now) _ _ c.any.result c.any.ensures.ran (YieldsList-from_range r.first (r.first + r.count) r.count refl (omega arith)) (λ x b q k. search rules)
-    ∙ uses_any _ _ (omega (arith, c.requires.1.counts))
+    any_from_yields_List (of_v_at c.args.sheet.now.bytes.now) _ _ c.any.result c.any.ensures.ran (YieldsList-from_range r.first (r.first + r.count) r.count refl (omega arith)) (λ x b q k. search rules)
+    ∙ uses_any _ _ (omega (arith, c.args.sheet.now.parts_at.counts))

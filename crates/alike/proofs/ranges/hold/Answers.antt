@@ -7,7 +7,7 @@ use Rattle.alike.proofs.ranges.hold.Goals as goal
 pub loop-b-preserved : goal.loop-b-preserved
 loop-b-preserved c =
     let l = c.loop-b in
-    rw c.set.ensures (added_more c.args.lo l.b c.args.r c.args.ws.now l.ws (omega arith) (omega arith) c.requires.1 c.requires.0 l.invariant)
+    rw c.set.ensures (added_more c.args.lo l.b c.args.r c.args.ws.now l.ws (omega arith) (omega arith) c.requires.0 (omega arith) l.invariant)
 
 pub returns : goal.returns
 returns c =

@@ -14,18 +14,18 @@ use Rattle.chart.proofs.singles.ranges.Goals as goal
 
 pub returns-then-no_range : goal.returns-then-no_range
 returns-then-no_range c =
-    let p = c.requires in
-    adds_none _ _ _ (no_holding _ _ p.2 _ _ (sym c.no_range.ensures ∙ c.if-no_range.true) (rows_few p.0 p.1))
+    let s = c.args.g.now.sheet.now in
+    adds_none _ _ _ (no_holding c.args.g.now _ _ (sym c.no_range.ensures ∙ c.if-no_range.true) (rows_few s.good s.rows_at))
 
 pub put_where-requires : goal.put_where-requires
 put_where-requires c =
-    let p = c.requires in
-    (omega arith, rows_few p.0 p.1, λ q h. search rules)
+    let s = c.args.g.now.sheet.now in
+    (omega arith, rows_few s.good s.rows_at, λ q h. search rules)
 
 pub returns : goal.returns
 unfolding among
 returns c =
     let a = c.args in
-    let p = c.requires in
-    let test : ℕ → Bool = λ q. holding a.x (row (grammar_of a.s.now) q) in
-    rw (put_where_is test c.put_where.ensures (λ q on h e. search rules)) (adds_below a.work.now a.sp p.4 test a.rows.count (omega arith) (rows_few p.0 p.1))
+    let s = a.g.now.sheet.now in
+    let test : ℕ → Bool = λ q. holding a.x (row (grammar_of s.bytes.now) q) in
+    rw (put_where_is test c.put_where.ensures (λ q on h e. search rules)) (adds_below a.work.now a.sp test s.rows.count (omega arith) (rows_few s.good s.rows_at))

@@ -10,12 +10,10 @@ returns-then-m-ne1 c = adds_none _ _ _ (λ r. long_range _ _ _ _ r c.if-m-ne1.tr
 
 pub returns-in-Some : goal.returns-in-Some
 returns-in-Some c =
-    let p = c.requires in
-    adds_same _ _ _ _ _ (rw c.from.ensures at c.ranges-in-Some.ensures) (λ r h. known_single _ c.args.places.now _ (rows_all p.0.table) _ _ _ c.if-m-ne1.false c.in-Some.is r)
+    adds_same _ _ _ _ _ c.ranges-in-Some.ensures (λ r h. known_single _ c.args.places.now _ (rows_all c.args.g.now.sheet.now.rows_at) _ _ _ c.if-m-ne1.false c.in-Some.is r)
 
 pub returns-in-None : goal.returns-in-None
 returns-in-None c =
     let a = c.args in
-    let p = c.requires in
     rw c.join.ensures
-    (adds_same _ _ _ _ _ (adds_joined a.work.now a.sp p.2 a.lay.now 257 (omega (arith, p.0.lent.room))) (λ r h. unknown_single _ _ a.places.now p.0.lent.ground _ _ c.if-m-ne1.false c.in-None.is r h))
+    (adds_same _ _ _ _ _ (adds_joined a.work.now a.sp a.g.now.ranges 0 (omega arith)) (λ r h. unknown_single a.g.now a.places.now _ _ c.if-m-ne1.false c.in-None.is r h))

@@ -16,19 +16,18 @@ pub returns-then-not-has_length : goal.returns-then-not-has_length
 returns-then-not-has_length c =
     let p = c.requires in
     let none = sym c.has_length.ensures ∙ c.if-not-has_length.true in
-    adds_none _ _ _ (texts_none _ _ c.args.places.now p.0.lent.ground _ _ _ (omega (arith, p.1, p.0.short)) none)
+    adds_none _ _ _ (texts_none c.args.g.now _ _ _ (omega (arith, p.0, p.1)) none)
 
 pub put_where-requires : goal.put_where-requires
 put_where-requires c =
-    let p = c.requires in
-    (omega (arith, p.0.lent.room), rows_few p.0.lent.good p.0.table, λ q h. search (rules, p.0.lent.good, p.0.table, p.0.lent.ground, p.1, c.text_of-text.ensures))
+    let s = c.args.g.now.sheet.now in
+    (omega arith, rows_few s.good s.rows_at, λ q h. search rules)
 
 pub returns : goal.returns
 unfolding among
 returns c =
     let a = c.args in
-    let p = c.requires in
-    let test : ℕ → Bool = λ q. fitting (text_of a.s.now) (allowed a.s.now a.places.now) a.m a.i (row (grammar_of a.s.now) q) in
-    let few = rows_few p.0.lent.good p.0.table in
+    let s = a.g.now.sheet.now in
+    let test : ℕ → Bool = λ q. fitting (text_of s.bytes.now) (allowed s.bytes.now a.places.now) a.m a.i (row (grammar_of s.bytes.now) q) in
     rw (put_where_is test c.put_where.ensures (λ q on h e. search rules))
-    (adds_same _ _ _ _ _ (adds_below a.work.now a.sp p.2 test a.rows.count (omega (arith, p.0.lent.room)) few) (λ r h. texts_passed _ a.places.now _ (rows_all p.0.table) _ _ _ r))
+    (adds_same _ _ _ _ _ (adds_below a.work.now a.sp test s.rows.count (omega arith) (rows_few s.good s.rows_at)) (λ r h. texts_passed _ a.places.now _ (rows_all s.rows_at) _ _ _ r))

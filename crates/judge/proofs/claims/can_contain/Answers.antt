@@ -7,7 +7,7 @@ use Rattle.judge.proofs.Claiming.{here, nowhere}
 use Rattle.judge.proofs.claims.can_contain.Goals as goal
 
 pub returns-then-holds_at : goal.returns-then-holds_at
-returns-then-holds_at c = here (sheet_of c.args.s.now) _ _ _ _ (omega arith) (sym c.holds_at.ensures ∙ c.if-holds_at.true)
+returns-then-holds_at c = here (sheet_of c.args.g.now.sheet.now.bytes.now) _ _ _ _ (omega arith) (sym c.holds_at.ensures ∙ c.if-holds_at.true)
 
 pub loop-end-preserved : goal.loop-end-preserved
 loop-end-preserved c = below_more _ _ c.loop-end.invariant (λ _. sym c.holds_at.ensures ∙ c.if-holds_at.false)

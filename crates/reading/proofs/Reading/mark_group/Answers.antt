@@ -9,14 +9,14 @@ use Rattle.paper.specs.Gate.{rows_of, head_end, head_at}
 use Rattle.reading.proofs.Reading.mark_group.Goals as goal
 
 pub loop-r-init : goal.loop-r-init
-loop-r-init c = (c.requires.2 ∙ head_first _ _, sym (turn_none _ _))
+loop-r-init c = (c.requires.1 ∙ head_first _ _, sym (turn_none _ _))
 
 pub mark_head-o-requires : goal.mark_head-o-requires
 mark_head-o-requires c =
     let p = c.args.self.now in
     let e = c.loop-r.invariant.0 in
-    let u : c.loop-r.r < rows_of p.list.now = omega (arith, p.rows_are) in
-    (omega (arith, c.loop-r.auto.work), c.requires.1, u, e, head_inside _ _ p.formed _ _ _ c.requires.1 u e)
+    let u : c.loop-r.r < rows_of p.list.now = omega (arith, p.trailed.rows_are) in
+    (c.requires.0, u, e, head_inside _ _ p.formed _ _ _ c.requires.0 u e)
 
 pub loop-r-preserved : goal.loop-r-preserved
 loop-r-preserved c =

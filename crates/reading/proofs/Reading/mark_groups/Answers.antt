@@ -15,14 +15,14 @@ pub mark_group-at-requires : goal.mark_group-at-requires
 mark_group-at-requires c =
     let p = c.args.self.now in
     let m : c.loop-m.m ≤ n_of p.list.now = omega (arith, p.fit) in
-    (omega (arith, c.loop-m.auto.work), m, c.loop-m.invariant.0 ∙ begins _ _ p.formed _ m)
+    (m, c.loop-m.invariant.0 ∙ begins _ _ p.formed _ m)
 
 pub loop-m-preserved : goal.loop-m-preserved
 loop-m-preserved c =
     let p = c.args.self.now in
     let t = c.mark_group-at in
     let l = c.loop-m in
-    (t.ensures.0 ∙ ap (λ k. head_at p.list.now l.m k) p.rows_are ∙ sym (group_next _ _), t.ensures.1 ∙ ap (λ v. mark_group p.list.now p.text.now p.word.now l.m v) l.invariant.1 ∙ sym (turn_more _ _ _))
+    (t.ensures.0 ∙ ap (λ k. head_at p.list.now l.m k) p.trailed.rows_are ∙ sym (group_next _ _), t.ensures.1 ∙ ap (λ v. mark_group p.list.now p.text.now p.word.now l.m v) l.invariant.1 ∙ sym (turn_more _ _ _))
 
 pub returns-2 : goal.returns-2
 unfolding marked

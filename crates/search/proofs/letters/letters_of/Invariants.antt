@@ -3,4 +3,4 @@ use Rattle.search.proofs.letters.letters_of.Given as goal
 
 -- the letters are those of the first i ranges
 abbrev pub invariant-loop-i : goal.invariant-loop-i
-invariant-loop-i l = RangesTo l.s l.i l.l.of
+invariant-loop-i l = RangesTo l.sheet.bytes.now l.i l.l.of

@@ -5,4 +5,4 @@ use Rattle.sheet_records.proofs.terms.term_len.Given as goal
 
 -- `sum` is the bytes of the first i parts
 abbrev pub invariant-loop-i : goal.invariant-loop-i
-invariant-loop-i l = (l.sum ≡ term_len l.s l.o l.i) × (l.sum ≤ 65535 * l.i)
+invariant-loop-i l = (l.sum ≡ term_len l.trailer.sheet.now l.o l.i) × (l.sum ≤ 65535 * l.i)
