@@ -2,6 +2,7 @@
 
 // Is a prefix open at a length?
 pub mod claims;
+pub mod held;
 
 ghost use Rattle.std.specs.Prelude.{◌≡◌, ◌≤◌, length};
 ghost use Rattle.paper.specs.Sheet.{sheet_of};
@@ -14,39 +15,26 @@ ghost use Rattle.judge.specs.Charts.{Meant, Asked, Keeps};
 ghost use Rattle.judge.specs.Judged.{Judged};
 
 use groundwork::Groundwork;
-use sheet_contents::{Assertion, Run};
+use held::Held;
+use sheet_contents::Assertion;
 use terms::Places;
 use workspace::Workspace;
 
 // The assertion can be met as it is signed, on the places of its terms.
-fn can_be(
-    g: &Groundwork,
-    a: Assertion,
-    p: &Places,
-    q: &Places,
-    held: &mut Option<Run>,
-    work: &mut Workspace,
-) -> bool
-    requires { Told g.now.sheet.now.bytes.now (as_assertion a) × Meant g.now.sheet.now.bytes.now a.term (shown p.now) held.old work.old }
-    ensures { (result ≡ can (sheet_of g.now.sheet.now.bytes.now) (as_assertion a) (shown p.now) (shown q.now)) × Asked g.now.sheet.now.bytes.now a.term (shown p.now) held.old held.new work.old work.new }
+fn can_be(g: &Groundwork, a: Assertion, p: &Places, q: &Places, held: &mut Held) -> bool
+    requires { Told g.now.sheet.now.bytes.now (as_assertion a) × Meant g.now.sheet.now.bytes.now a.term (shown p.now) held.old.run held.old.work.now }
+    ensures { (result ≡ can (sheet_of g.now.sheet.now.bytes.now) (as_assertion a) (shown p.now) (shown q.now)) × Asked g.now.sheet.now.bytes.now a.term (shown p.now) held.old.run held.new.run held.old.work.now held.new.work.now }
 {
     if a.denied && (terms::meets::some_unknown(p) || terms::meets::some_unknown(q)) {
         return true;
     }
-    claims::can_hold(g, a, p, q, held, work) != a.denied
+    claims::can_hold(g, a, p, q, held) != a.denied
 }
 
-// The assertion is possible where v has these places. Assertions over one term share its chart, the dearest thing of a judgement:
-// `held` is the run whose term's chart the workspace holds.
-pub fn possible(
-    g: &Groundwork,
-    a: Assertion,
-    v: &Places,
-    held: &mut Option<Run>,
-    work: &mut Workspace,
-) -> bool
-    requires { Told g.now.sheet.now.bytes.now (as_assertion a) × (v.now.len ≤ g.now.sheet.now.longest) × Keeps g.now.sheet.now.bytes.now (shown v.now) held.old work.old }
-    ensures { Judged g.now.sheet.now.bytes.now v.now (as_assertion a) result held.new work.new }
+// The assertion is possible where v has these places.
+pub fn possible(g: &Groundwork, a: Assertion, v: &Places, held: &mut Held) -> bool
+    requires { Told g.now.sheet.now.bytes.now (as_assertion a) × (v.now.len ≤ g.now.sheet.now.longest) × Keeps g.now.sheet.now.bytes.now (shown v.now) held.old.run held.old.work.now }
+    ensures { Judged g.now.sheet.now.bytes.now v.now (as_assertion a) result held.new.run held.new.work.now }
 {
     let second = sheet_contents::second_run(a.claim);
     if !terms::inside(g.sheet, v.len, a.term) || !terms::inside(g.sheet, v.len, second) {
@@ -54,7 +42,7 @@ pub fn possible(
     }
     let p = terms::term(g.sheet, v, a.term);
     let q = terms::term(g.sheet, v, second);
-    can_be(g, a, &p, &q, held, work)
+    can_be(g, a, &p, &q, held)
 }
 
 // Each assertion is possible where v has these places.
@@ -63,9 +51,9 @@ pub fn opens_on(g: &Groundwork, v: &Places, work: &mut Workspace) -> bool
     ensures { result ≡ opens_on (sheet_of g.now.sheet.now.bytes.now) v.now.len (shown v.now) }
 {
     // what the workspace has from an earlier call is of other places
-    let mut held = None;
+    let mut held = Held { run: None, work };
     for i in 0..g.sheet.assertions.count {
-        if !possible(g, g.sheet.assertion(i), v, &mut held, work) {
+        if !possible(g, g.sheet.assertion(i), v, &mut held) {
             return false;
         }
     }

@@ -14,9 +14,9 @@ returns c =
     elim c.if-ne.branch [
       | then-ne w ↦
           let chart = charts_filled _ _ _ w.fill.ensures in
-          rw (w.work-is, w.held-is) (derived _ _ _ _ _ (omega (arith, c.requires.0)) chart (rw w.work-is at c.derives.ensures), chart, refl)
+          rw w.held-is (derived _ _ _ _ _ (omega (arith, c.requires.0)) chart (rw w.held-is at c.derives.ensures), chart, refl)
       | else-ne w ↦
-          let same : c.args.held.now ≡ Some c.args.term = search (rules, tests) in
+          let same : c.args.held.now.run ≡ Some c.args.term = search (rules, tests) in
           let chart = c.requires.2.chart same in
-          rw (w.work-is, w.held-is) (derived _ _ _ _ _ (omega (arith, c.requires.0)) chart (rw w.work-is at c.derives.ensures), chart, same)
+          rw w.held-is (derived _ _ _ _ _ (omega (arith, c.requires.0)) chart (rw w.held-is at c.derives.ensures), chart, same)
     ]
