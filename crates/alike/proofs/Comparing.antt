@@ -44,10 +44,10 @@ module _ (s : List ℕ) where
   part_told k p l h = ap of_v (h.same All ∙ part_here s k All l)
 
   -- part k of a run is
-  abbrev in_term : (first k : ℕ) → Bool
+  abbrev pub in_term : (first k : ℕ) → Bool
   in_term first k = of_v_at (first + k)
 
-  uses_below : (r : Run) → r.first + r.count ≤ count_of s 3 → uses_v (sheet_of s) r ≡ any_below r.count (in_term r.first)
+  pub uses_below : (r : Run) → r.first + r.count ≤ count_of s 3 → uses_v (sheet_of s) r ≡ any_below r.count (in_term r.first)
   unfolding uses_v parts_of
   uses_below r h =
       let rest = drop r.first (sheet_of s).parts in

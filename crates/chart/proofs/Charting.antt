@@ -61,7 +61,7 @@ module _ (g : Groundwork) where
       → Adds sp (passing (grammar_of g.sheet.now.bytes.now) (ranged (allowed g.sheet.now.bytes.now places) m i)) w0 w1
       → Adds sp (passing (grammar_of g.sheet.now.bytes.now) (fitting (text_of g.sheet.now.bytes.now) (allowed g.sheet.now.bytes.now places) m i)) w1 w2
       → Adds sp (parted (listed g) w2 i m (m - 1)) w2 w3
-      → Adds sp (carried_in g.reach w3 sp g.sheet.now.rows.count) w3 new
+      → Adds sp (carried_in g.reach.now w3 sp g.sheet.now.rows.count) w3 new
       → Cell (derivable g.sheet.now.bytes.now places) m i work new
   unfolding sheet_of grammar_of
   cell_of places short m i sp work w0 w1 w2 w3 new words h room p x z a b c d =
@@ -72,4 +72,4 @@ module _ (g : Groundwork) where
       (subst (λ t. Adds t (passing (grammar_of g.sheet.now.bytes.now) (ranged pat m i)) (wiped work t) w1) p (subst (λ w. Adds sp (passing (grammar_of g.sheet.now.bytes.now) (ranged pat m i)) w w1) z a))
       (subst (λ t. Adds t (passing (grammar_of g.sheet.now.bytes.now) (fitting (text_of g.sheet.now.bytes.now) pat m i)) w1 w2) p b)
       (subst (λ t. Adds t (parted (listed g) w2 i m (m - 1)) w2 w3) p c)
-      (subst (λ t. Adds t (carried_in g.reach w3 t (length (sheet_of g.sheet.now.bytes.now).grammar.rows)) w3 new) p (subst (λ n. Adds sp (carried_in g.reach w3 sp n) w3 new) (sym rows_are) d))
+      (subst (λ t. Adds t (carried_in g.reach.now w3 t (length (sheet_of g.sheet.now.bytes.now).grammar.rows)) w3 new) p (subst (λ n. Adds sp (carried_in g.reach.now w3 sp n) w3 new) (sym rows_are) d))

@@ -42,20 +42,20 @@ module _ (S : Sheet) (pat : Pattern) where
 module _ (S : Sheet) (g : Groundwork) (ground : Ground S g) (few : length S.grammar.rows ≤ 256) (pat : Pattern) where
   -- the rows that do something by themselves, carried back: the rows that derive the span
   carried_level : (acc : Test) (ws : List ℕ) (sp m i : ℕ) → ((q : ℕ) → q < 256 → bit_at ws sp q ≡ own_row S.grammar pat acc q (row S.grammar q) (suc m) i)
-      → (r : ℕ) → r < 256 → (bit_at ws sp r || carried_in g.reach ws sp (length S.grammar.rows) r) ≡ level S.grammar pat acc (suc m) i r
+      → (r : ℕ) → r < 256 → (bit_at ws sp r || carried_in g.reach.now ws sp (length S.grammar.rows) r) ≡ level S.grammar pat acc (suc m) i r
   unfolding level carried_in brought
   carried_level acc ws sp m i own r h =
       same_test _ _
-      (λ e. go (or_cases (bit_at ws sp r) (carried_in g.reach ws sp (length S.grammar.rows) r) e))
-      (λ e. or_right (bit_at ws sp r) (carried_in g.reach ws sp (length S.grammar.rows) r) (same ∙ e))
+      (λ e. go (or_cases (bit_at ws sp r) (carried_in g.reach.now ws sp (length S.grammar.rows) r) e))
+      (λ e. or_right (bit_at ws sp r) (carried_in g.reach.now ws sp (length S.grammar.rows) r) (same ∙ e))
     where
       f : ℕ → Bool
       f q = reaches S.grammar r q && own_row S.grammar pat acc q (row S.grammar q) (suc m) i
 
-      same : carried_in g.reach ws sp (length S.grammar.rows) r ≡ any_below (length S.grammar.rows) f
-      same = any_same (length S.grammar.rows) (λ q. bit_at g.reach q r && bit_at ws sp q) f (λ q l. rw (ground.reached q r l h, own q (omega arith)))
+      same : carried_in g.reach.now ws sp (length S.grammar.rows) r ≡ any_below (length S.grammar.rows) f
+      same = any_same (length S.grammar.rows) (λ q. bit_at g.reach.now q r && bit_at ws sp q) f (λ q l. rw (ground.reached q r l h, own q (omega arith)))
 
-      go : (bit_at ws sp r ≡ true) ⊎ (carried_in g.reach ws sp (length S.grammar.rows) r ≡ true) → any_below (length S.grammar.rows) f ≡ true
+      go : (bit_at ws sp r ≡ true) ⊎ (carried_in g.reach.now ws sp (length S.grammar.rows) r ≡ true) → any_below (length S.grammar.rows) f ≡ true
       go (inl p) =
           let o : own_row S.grammar pat acc r (row S.grammar r) (suc m) i ≡ true = sym (own r h) ∙ p in
           let l = own_below S pat acc (suc m) i r o in
@@ -68,7 +68,7 @@ module _ (S : Sheet) (g : Groundwork) (ground : Ground S g) (few : length S.gram
       → Adds (span_at i m) (passing S.grammar (ranged pat m i)) (wiped old (span_at i m)) w1
       → Adds (span_at i m) (passing S.grammar (fitting S.grammar.text pat m i)) w1 w2
       → Adds (span_at i m) (parted (listed g) w2 i m (m - 1)) w2 w3
-      → Adds (span_at i m) (carried_in g.reach w3 (span_at i m) (length S.grammar.rows)) w3 new
+      → Adds (span_at i m) (carried_in g.reach.now w3 (span_at i m) (length S.grammar.rows)) w3 new
       → Cell (accepts S.grammar pat) m i old new
   unfolding passing
   cell_done zero i old w1 w2 w3 new h room shorter a b c d = absurd (not-suc-le-zero h)

@@ -69,11 +69,11 @@ module _ (g : Grammar) (f : Row → Bool) where
 -- ---- places
 
 module _ (S : Sheet) (places : List (Option ℕ)) (i : ℕ) where
-  known_place : (x : ℕ) → get_or places i None ≡ Some x → (b : ℕ) → pattern S (places_in places) i b ≡ same_byte b x
+  pub known_place : (x : ℕ) → get_or places i None ≡ Some x → (b : ℕ) → pattern S (places_in places) i b ≡ same_byte b x
   unfolding pattern allows place_of
   known_place x e b = rw (places_at places i, e)
 
-  unknown_place : get_or places i None ≡ None → (b : ℕ) → pattern S (places_in places) i b ≡ letter S b
+  pub unknown_place : get_or places i None ≡ None → (b : ℕ) → pattern S (places_in places) i b ≡ letter S b
   unfolding pattern allows place_of
   unknown_place e b = rw (places_at places i, e)
 

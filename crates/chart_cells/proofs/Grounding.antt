@@ -22,7 +22,7 @@ use Rattle.groundwork.proofs.Laying.{ground_of}
 use Rattle.chart_cells.specs.Steps.{listed, Chained}
 
 -- a bit that is set is a row's
-bit_row : (ws : List ℕ) (s r : ℕ) → bit_at ws s r ≡ true → r < 256
+pub bit_row : (ws : List ℕ) (s r : ℕ) → bit_at ws s r ≡ true → r < 256
 bit_row ws s r e = lt_or_le r 256 (λ h. h) (λ h. absurd (true≢false (sym e ∙ bit_past ws s r h)))
 
 reach_then : (g : Grammar) {r q p : ℕ} → Reach g r q → Reach g q p → Reach g r p
@@ -49,14 +49,14 @@ module _ (g : Groundwork) where
   unfolding grammar_of table_of
   rows_are = g.sheet.now.rows_at.counts ∙ sym (table_length 0 (count_of g.sheet.now.bytes.now 2) (of_table row_at g.sheet.now.bytes.now 2))
 
-  reached : (q r : ℕ) → q < g.sheet.now.rows.count → bit_at g.reach q r ≡ reaches (grammar_of g.sheet.now.bytes.now) r q
+  reached : (q r : ℕ) → q < g.sheet.now.rows.count → bit_at g.reach.now q r ≡ reaches (grammar_of g.sheet.now.bytes.now) r q
   reached q r h = g.reach_is.bits q r (rw rows_are at h)
 
   -- a row reaches itself, so it has a bit
   pub row_below : (q : ℕ) → q < g.sheet.now.rows.count → q < 256
-  row_below q h = bit_row g.reach q q (reached q q h ∙ reaches_from (grammar_of g.sheet.now.bytes.now) (rw rows_are at h) Reach.here)
+  row_below q h = bit_row g.reach.now q q (reached q q h ∙ reaches_from (grammar_of g.sheet.now.bytes.now) (rw rows_are at h) Reach.here)
 
-  pub chained : Chained g.reach g.sheet.now.rows.count
+  pub chained : Chained g.reach.now g.sheet.now.rows.count
   chained p q r hp hq x y =
       let rows = grammar_of g.sheet.now.bytes.now in
       let rq = reaches_sound rows r q (sym (reached q r hq) ∙ y) in

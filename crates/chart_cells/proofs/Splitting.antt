@@ -21,7 +21,7 @@ use Rattle.chart_cells.specs.Steps.{Kept, Adds, only, both, paired, parted}
 use Rattle.chart_cells.proofs.Adding.{only_off, adds_none, adds_then}
 
 -- one number more, at the end
-any_more : (n : ℕ) (f : ℕ → Bool) → (any_below n f || f n) ≡ any_below (n + 1) f
+pub any_more : (n : ℕ) (f : ℕ → Bool) → (any_below n f || f n) ≡ any_below (n + 1) f
 any_more n f = rw (add-one n, any_suc n f) (or_comm (any_below n f) (f n))
 
 -- tests that agree below n
@@ -40,11 +40,11 @@ any_fails (suc n) f h = rw (any_suc n f, h n (omega arith)) (any_fails n f (λ k
 
 module _ (ps : List Pair) (left right : ℕ) where
   -- spans that are kept give the same
-  both_kept : (sp : ℕ) (old now : List ℕ) → Kept sp old now → left ≢ sp → right ≢ sp → (p : Pair) → both now left right p ≡ both old left right p
+  pub both_kept : (sp : ℕ) (old now : List ℕ) → Kept sp old now → left ≢ sp → right ≢ sp → (p : Pair) → both now left right p ≡ both old left right p
   unfolding both
   both_kept sp old now k l r p = rw (k left p.left l, k right p.right r)
 
-  paired_kept : (sp : ℕ) (old now : List ℕ) → Kept sp old now → left ≢ sp → right ≢ sp → (n r : ℕ) → paired ps now left right n r ≡ paired ps old left right n r
+  pub paired_kept : (sp : ℕ) (old now : List ℕ) → Kept sp old now → left ≢ sp → right ≢ sp → (n r : ℕ) → paired ps now left right n r ≡ paired ps old left right n r
   unfolding paired
   paired_kept sp old now k l r n q =
       any_same n _ _ (λ j h. ap (λ b. only (get_or ps j no_pair).row b q) (both_kept sp old now k l r (get_or ps j no_pair)))
@@ -53,7 +53,7 @@ module _ (ps : List Pair) (left right : ℕ) where
   unfolding paired
   paired_none ws r = any_none _
 
-  paired_more : (ws : List ℕ) (j r : ℕ) → (paired ps ws left right j r || only (get_or ps j no_pair).row (both ws left right (get_or ps j no_pair)) r) ≡ paired ps ws left right (j + 1) r
+  pub paired_more : (ws : List ℕ) (j r : ℕ) → (paired ps ws left right j r || only (get_or ps j no_pair).row (both ws left right (get_or ps j no_pair)) r) ≡ paired ps ws left right (j + 1) r
   unfolding paired
   paired_more ws j r = any_more j (λ p. only (get_or ps p no_pair).row (both ws left right (get_or ps p no_pair)) r)
 

@@ -60,17 +60,18 @@ pub fn splits(g: &Groundwork, work: &mut Workspace, i: usize, m: usize, sp: usiz
 // The rows that reach row q, where it is in span sp, into that span.
 fn bring(g: &Groundwork, work: &mut Workspace, sp: usize, q: usize)
     requires { (q < 256) × (sp < 1891) }
-    ensures { Adds sp (brought g.now.reach work.old sp q) work.old work.new }
+    ensures { Adds sp (brought g.now.reach.now work.old sp q) work.old work.new }
 {
     if workspace::test(work, sp, q) {
-        workspace::join(work, sp, &g.reach, q);
+        let reach = g.reach;
+        workspace::join(work, sp, reach, q);
     }
 }
 
 // The rows that reach a row of span sp, into it. A row that came in on the way brings none that the row it reaches did not.
 pub fn carry(g: &Groundwork, work: &mut Workspace, sp: usize)
     requires { sp < 1891 }
-    ensures { Adds sp (carried_in g.now.reach work.old sp g.now.sheet.now.rows.count) work.old work.new }
+    ensures { Adds sp (carried_in g.now.reach.now work.old sp g.now.sheet.now.rows.count) work.old work.new }
 {
     if workspace::none(work, sp) {
         return;

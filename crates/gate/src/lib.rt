@@ -22,5 +22,6 @@ pub fn gate(list: &[u8], text: &[u8], word: &[u8], work: &mut [u64]) -> Result<b
     let Some(work) = work.first_chunk_mut::<{ paper::WORDS }>() else {
         return Err(Refusal::Workspace);
     };
-    Ok(reading::read(list, trailer, text, word, work))
+    let accepted = reading::read(list, text, word, work);
+    Ok(accepted)
 }

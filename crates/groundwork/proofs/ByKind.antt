@@ -26,7 +26,7 @@ use Rattle.groundwork.specs.Ground.{Splits, PairOf}
 -- ---- a range that holds a letter
 
 module _ (s : Sheet) where
-  letters_of : (low high : ℕ) → any_below (high + 1 - low) (letter_from s low) ≡ some_letter s (Range low high)
+  pub letters_of : (low high : ℕ) → any_below (high + 1 - low) (letter_from s low) ≡ some_letter s (Range low high)
   unfolding some_letter
   letters_of low high = rw add-one
 

@@ -22,7 +22,7 @@ pub record PairOf (r : Row) (p : Pair) : Type 0 where
   pub splits : Splits p.row r p.left p.right
 
 pub record Ground (s : Sheet) (g : Groundwork) : Type 0 where
-  pub reached : (q r : ℕ) → q < length s.grammar.rows → r < 256 → bit_at g.reach q r ≡ reaches s.grammar r q
+  pub reached : (q r : ℕ) → q < length s.grammar.rows → r < 256 → bit_at g.reach.now q r ≡ reaches s.grammar r q
   pub empties : (r : ℕ) → r < 256 → bit_at g.empty 0 r ≡ nullable s.grammar r
   pub ranges : (q : ℕ) → q < 256 → bit_at g.ranges 0 q ≡ some_letter s (row s.grammar q)
   pub letters : (b : ℕ) → bit_at g.letters 0 b ≡ letter s b

@@ -11,8 +11,8 @@ use sheet::Sheet;
 #[derive(Drop)]
 pub struct Groundwork<'a> {
     pub sheet: &'a Sheet<'a>,
-    // the rows that reach row q, in entry q
-    pub reach: [u64; 1024],
+    // the rows that reach row q, in entry q; 8,192 bytes, lent
+    pub reach: &'a [u64; 1024],
     // the rows that derive the empty word
     pub empty: [u64; 4],
     // the ranges that hold a letter
@@ -23,7 +23,7 @@ pub struct Groundwork<'a> {
     pub count: usize,
     // the lengths of the text rows, a bit each
     pub lengths: u64,
-    pub ghost reach_is: { Reached (grammar_of sheet.now.bytes.now) reach },
+    pub ghost reach_is: { Reached (grammar_of sheet.now.bytes.now) reach.now },
     pub ghost empty_is: { Nulls (grammar_of sheet.now.bytes.now) empty },
     pub ghost ranges_are: { RangesIn (sheet_of sheet.now.bytes.now) ranges },
     pub ghost letters_are: { LettersIn (sheet_of sheet.now.bytes.now) letters },
@@ -36,17 +36,21 @@ pub struct Groundwork<'a> {
 impl<'a> Groundwork<'a> {
     ghost use Rattle.paper.specs.Sheet.{letter};
 
-    // The groundwork of a sheet whose letters are given.
-    pub fn of(sheet: &'a Sheet<'a>, letters: &[u64; 4]) -> Self
-        requires { LettersIn (sheet_of sheet.now.bytes.now) letters.now }
+    // The groundwork of a sheet whose letters, empty words and reach are given.
+    pub fn of(
+        sheet: &'a Sheet<'a>,
+        letters: &[u64; 4],
+        empty: &[u64; 4],
+        reach: &'a [u64; 1024],
+    ) -> Self
+        requires { LettersIn (sheet_of sheet.now.bytes.now) letters.now × Nulls (grammar_of sheet.now.bytes.now) empty.now × Reached (grammar_of sheet.now.bytes.now) reach.now }
         ensures { result.sheet.now ≡ sheet.now }
     {
-        let empty = rows::nulls(sheet);
         let (pairs, count) = crate::pairs(sheet);
         Groundwork {
             sheet,
-            reach: rows::reach(sheet, &empty),
-            empty,
+            reach,
+            empty: *empty,
             ranges: crate::ranges(sheet),
             letters: *letters,
             pairs,

@@ -12,7 +12,7 @@ ghost use Rattle.workspace.specs.Places.{places_in};
 ghost use Rattle.terms.specs.Shown.{shown};
 ghost use Rattle.judge.specs.Charts.{Charts, Meant, Left};
 
-use crate::held::Held;
+use crate::held::Lent;
 use groundwork::Groundwork;
 use sheet_contents::{Assertion, Claim, Run};
 use terms::Places;
@@ -39,7 +39,7 @@ fn can_contain(g: &Groundwork, a: usize, b: usize, places: &[Option<u8>]) -> boo
 }
 
 // The row derives some filling of a term's places, whose chart is filled unless the workspace holds it.
-fn can_derive(g: &Groundwork, row: usize, term: Run, places: &[Option<u8>], held: &mut Held) -> bool
+fn can_derive(g: &Groundwork, row: usize, term: Run, places: &[Option<u8>], held: &mut Lent) -> bool
     requires { (row < count_of g.now.sheet.now.bytes.now 2) × (length places.now ≤ 60) × Meant g.now.sheet.now.bytes.now term (places_in places.now) held.old.run held.old.work.now }
     ensures { ((u : List Place) → result ≡ can_hold (sheet_of g.now.sheet.now.bytes.now) (Derived row) (places_in places.now) u) × Charts g.now.sheet.now.bytes.now (places_in places.now) held.new.work.now × (held.new.run ≡ Some term) }
 {
@@ -51,7 +51,7 @@ fn can_derive(g: &Groundwork, row: usize, term: Run, places: &[Option<u8>], held
 }
 
 // The assertion's claim can be made to hold of the places of its terms.
-pub fn can_hold(g: &Groundwork, a: Assertion, p: &Places, q: &Places, held: &mut Held) -> bool
+pub fn can_hold(g: &Groundwork, a: Assertion, p: &Places, q: &Places, held: &mut Lent) -> bool
     requires { SoundClaim (count_of g.now.sheet.now.bytes.now 1) (count_of g.now.sheet.now.bytes.now 2) (count_of g.now.sheet.now.bytes.now 3) (as_claim a.claim) × Meant g.now.sheet.now.bytes.now a.term (shown p.now) held.old.run held.old.work.now }
     ensures { (result ≡ can_hold (sheet_of g.now.sheet.now.bytes.now) (as_claim a.claim) (shown p.now) (shown q.now)) × Left g.now.sheet.now.bytes.now (as_claim a.claim) a.term (shown p.now) held.old.run held.new.run held.old.work.now held.new.work.now }
 {

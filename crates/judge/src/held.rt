@@ -2,10 +2,12 @@
 use sheet_contents::Run;
 use workspace::Workspace;
 
-// The words lent, and the run whose term's chart they hold, if they hold one: assertions over one term share its chart,
-// the dearest thing of a judgement.
+// The run whose term's chart they hold, if they hold one.
+pub type Held = Option<Run>;
+
+// The words lent, and what they hold: assertions over one term share its chart, the dearest thing of a judgement.
 #[derive(Drop)]
-pub struct Held<'a> {
-    pub run: Option<Run>,
+pub struct Lent<'a> {
+    pub run: Held,
     pub work: &'a mut Workspace,
 }

@@ -15,13 +15,13 @@ ghost use Rattle.judge.specs.Charts.{Meant, Asked, Keeps};
 ghost use Rattle.judge.specs.Judged.{Judged};
 
 use groundwork::Groundwork;
-use held::Held;
+use held::Lent;
 use sheet_contents::Assertion;
 use terms::Places;
 use workspace::Workspace;
 
 // The assertion can be met as it is signed, on the places of its terms.
-fn can_be(g: &Groundwork, a: Assertion, p: &Places, q: &Places, held: &mut Held) -> bool
+fn can_be(g: &Groundwork, a: Assertion, p: &Places, q: &Places, held: &mut Lent) -> bool
     requires { Told g.now.sheet.now.bytes.now (as_assertion a) × Meant g.now.sheet.now.bytes.now a.term (shown p.now) held.old.run held.old.work.now }
     ensures { (result ≡ can (sheet_of g.now.sheet.now.bytes.now) (as_assertion a) (shown p.now) (shown q.now)) × Asked g.now.sheet.now.bytes.now a.term (shown p.now) held.old.run held.new.run held.old.work.now held.new.work.now }
 {
@@ -32,7 +32,7 @@ fn can_be(g: &Groundwork, a: Assertion, p: &Places, q: &Places, held: &mut Held)
 }
 
 // The assertion is possible where v has these places.
-pub fn possible(g: &Groundwork, a: Assertion, v: &Places, held: &mut Held) -> bool
+pub fn possible(g: &Groundwork, a: Assertion, v: &Places, held: &mut Lent) -> bool
     requires { Told g.now.sheet.now.bytes.now (as_assertion a) × (v.now.len ≤ g.now.sheet.now.longest) × Keeps g.now.sheet.now.bytes.now (shown v.now) held.old.run held.old.work.now }
     ensures { Judged g.now.sheet.now.bytes.now v.now (as_assertion a) result held.new.run held.new.work.now }
 {
@@ -51,7 +51,7 @@ pub fn opens_on(g: &Groundwork, v: &Places, work: &mut Workspace) -> bool
     ensures { result ≡ opens_on (sheet_of g.now.sheet.now.bytes.now) v.now.len (shown v.now) }
 {
     // what the workspace has from an earlier call is of other places
-    let mut held = Held { run: None, work };
+    let mut held = Lent { run: None, work };
     for i in 0..g.sheet.assertions.count {
         if !possible(g, g.sheet.assertion(i), v, &mut held) {
             return false;

@@ -6,10 +6,12 @@ use mathlib.Core.Bool.{true}
 use mathlib.Core.List.{List}
 use native.Mathlib.Nat.{zero-add}
 use native.Mathlib.Omega.{arith}
+use lib.Dec.{leb}
 use lib.ListN.{length, get_or}
+use borrow.Author.Tests.{leb-true}
 use Rattle.paper.specs.Cuts.{Opt, Byte, Stretch, Split, Nil}
-use Rattle.paper.specs.Gate.{n_of, rows_of, group_at, group_begin, option_count, head_end, head_at, option_at, opt_of, opts_of, well_formed}
-use Rattle.paper.proofs.Tests.{every_at, table_length, table_at}
+use Rattle.paper.specs.Gate.{n_of, rows_of, group_at, group_begin, option_count, head_end, head_at, option_at, opt_of, opts_of, trailer_ok, well_formed}
+use Rattle.paper.proofs.Tests.{and_left, and_right, every_at, table_length, table_at}
 use Rattle.paper.proofs.Obeys.{Obeys}
 use Rattle.paper.proofs.WellFormed.{Formed, formed, formed_obey}
 
@@ -32,6 +34,10 @@ module _ (l : List ℕ) (text : ℕ) (f : Formed l text) (m r : ℕ) (h : m ≤ 
       rw e at (every_at (Obeys text (rows_of l) m) (opts_of l m r) Nil (formed_obey l text f m r h u) j v)
 
 module _ (l : List ℕ) (text : ℕ) (w : well_formed l text ≡ true) where
+  pub right_trailer : (20 ≤ length l) × (trailer_ok l ≡ true)
+  unfolding well_formed
+  right_trailer = (leb-true 20 (length l) (and_left (leb 20 (length l)) _ w), and_left (trailer_ok l) _ (and_right (leb 20 (length l)) _ w))
+
   pub begins : (m : ℕ) → m ≤ n_of l → group_begin l m ≡ group_at l m
   begins m h = sym ((formed l text w).begins m h)
 

@@ -1,5 +1,5 @@
 // Readers of a cut list's numbers: its trailer and its options.
-ghost use Rattle.std.specs.Prelude.{◌≡◌, true, false, ◌&&◌, ◌+◌, ◌*◌, ◌-◌, ◌≤◌, ◌<◌, length, leb, ltb, MatchOption};
+ghost use Rattle.std.specs.Prelude.{◌≡◌, true, ◌&&◌, ◌+◌, ◌*◌, ◌-◌, ◌≤◌, ◌<◌, length, leb, ltb};
 ghost use Rattle.paper.specs.Trailer.{limit};
 ghost use Rattle.paper.specs.Gate.{n_of, rows_of, root_of, trailer_ok, opt_of};
 ghost use Rattle.list.specs.Read.{Trailed, Fielded, OptionOf, option_of};
@@ -15,11 +15,13 @@ pub struct Trailer {
 
 // The mark at the list's end, the trailer's numbers within their limits, and room for it.
 #[tactic(auto, unfolding(paper::specs::Gate::trailer_ok))]
-fn trailer_ok(list: &[u8], n: usize, rows: usize, root: usize) -> bool
-    requires { (20 ≤ length list.now) × (n ≡ n_of list.now) × (n < 256) × (rows ≡ rows_of list.now) × (root ≡ root_of list.now) }
+pub fn trailer_ok(list: &[u8]) -> bool
+    requires { 20 ≤ length list.now }
     ensures { result ≡ trailer_ok list.now }
 {
     let len = list.len();
+    let n = usize::from(list[len - 12]);
+    let rows = numbers::u16_at(list, len - 14);
     numbers::mark_at(list, len - 4, b"CUT1")
         && numbers::u32_at(list, len - 8) == len
         && list[len - 11..len - 8] == [0, 0, 0]
@@ -27,27 +29,22 @@ fn trailer_ok(list: &[u8], n: usize, rows: usize, root: usize) -> bool
         && 4 * n + 20 <= len
         && 1 <= rows
         && rows <= 256
-        && root < rows
+        && numbers::u16_at(list, len - 16) < rows
 }
 
-// The trailer, if it is right.
-pub fn trailer_of(list: &[u8]) -> Option<Trailer>
-    requires { 20 ≤ length list.now }
-    ensures { MatchOption result (trailer_ok list.now ≡ false) (λ t. (trailer_ok list.now ≡ true) × Trailed list.now t) }
+// The trailer, where it is right.
+pub fn trailer_of(list: &[u8]) -> Trailer
+    requires { (20 ≤ length list.now) × (trailer_ok list.now ≡ true) }
+    ensures { Trailed list.now result }
 {
     let len = list.len();
     let n = usize::from(list[len - 12]);
-    let rows = numbers::u16_at(list, len - 14);
-    let root = numbers::u16_at(list, len - 16);
-    if !trailer_ok(list, n, rows, root) {
-        return None;
-    }
-    Some(Trailer {
+    Trailer {
         n,
-        rows,
-        root,
+        rows: numbers::u16_at(list, len - 14),
+        root: numbers::u16_at(list, len - 16),
         base: len - (4 * n + 20),
-    })
+    }
 }
 
 // An option's fields but its zero field.

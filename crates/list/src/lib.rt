@@ -10,7 +10,7 @@ ghost use Rattle.paper.specs.Promises.{Admits};
 ghost use Rattle.std.specs.Bool.{then_some};
 ghost use Rattle.list.specs.Read.{Trailed, option_from};
 
-use crate::fields::{Fields, Opt, Trailer, fields_at, trailer_of};
+use crate::fields::{Fields, Opt, Trailer, fields_at, trailer_of, trailer_ok};
 
 // A list whose trailer is right, and how many bytes its text has.
 #[derive(Clone, Copy)]
@@ -107,10 +107,10 @@ impl<'a> CutList<'a> {
 pub fn formed_trailer(list: &[u8], text: usize) -> Option<Trailer>
     ensures { MatchOption result (well_formed list.now text ≡ false) (λ t. (well_formed list.now text ≡ true) × Trailed list.now t) }
 {
-    if list.len() < 20 {
+    if list.len() < 20 || !trailer_ok(list) {
         return None;
     }
-    let t = trailer_of(list)?;
+    let t = trailer_of(list);
     let cut = CutList {
         bytes: list,
         t,

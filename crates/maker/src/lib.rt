@@ -1,7 +1,7 @@
 #![tactic(auto)]
 
 // The maker of cut lists.
-ghost use Rattle.std.specs.Prelude.{◌+◌, ◌*◌, ◌≤◌, length};
+ghost use Rattle.std.specs.Prelude.{◌+◌, ◌*◌, ◌≤◌, ◌<◌, length};
 ghost use Rattle.paper.specs.Tests.{gather};
 ghost use Rattle.paper.specs.Refusals.{Accepted};
 ghost use Rattle.paper.specs.Promises.{Makes};
@@ -9,7 +9,7 @@ ghost use Rattle.numbers.specs.Put.{Put};
 ghost use Rattle.sheet.specs.Told.{made};
 ghost use Rattle.maker.specs.Trailer.{offset_bytes, ending_bytes, trailer_bytes};
 
-use maker_options::{LENGTHS, Plan};
+use maker_options::{LENGTHS, Plan, WORDS};
 use sheet::{Fault, Sheet};
 
 // The groups' offsets at o.
@@ -60,16 +60,34 @@ fn fill(plan: &Plan, list: &mut [u8]) -> Result<usize, Fault>
     Ok(total)
 }
 
+// The list of an accepted sheet's row for a length of at most 60. The plan is made here, for a call pays for the size of its own values
+// even where it refuses.
+fn planned(sheet: &Sheet, root: usize, n: usize, list: &mut [u8]) -> Result<usize, Fault>
+    requires { Accepted sheet.now.bytes.now × (root < sheet.now.rows.count) × (n ≤ 60) }
+    ensures { Makes made sheet.now.bytes.now root n list.old result list.new }
+{
+    let mut table = [0; WORDS];
+    maker_options::prepare(sheet, n, &mut table);
+    let plan = Plan {
+        sheet,
+        root,
+        n,
+        table: &table,
+    };
+    fill(&plan, list)
+}
+
 // The cut list of a sheet's row for the length n, at the start of the space lent.
 pub fn make(s: &[u8], row: u64, n: u64, list: &mut [u8]) -> Result<usize, Fault>
     ensures { Makes made s.now row n list.old result list.new }
 {
-    let sheet = Sheet::read(s, sheet::LATEST)?;
+    sheet::check(s)?;
+    let sheet = Sheet::of(s);
     if row >= sheet.rows.count as u64 {
         return Err(Fault::Row);
     }
     if n > 60 {
         return Err(Fault::Length);
     }
-    fill(&Plan::of(&sheet, row as usize, n as usize), list)
+    planned(&sheet, row as usize, n as usize, list)
 }

@@ -2,7 +2,7 @@
 ghost use Rattle.std.specs.Prelude.{◌+◌, ◌≤◌, length};
 ghost use Rattle.paper.specs.Cuts.{option_bytes, head_bytes};
 ghost use Rattle.numbers.specs.Put.{Put};
-ghost use Rattle.maker_groups.specs.Parts.{as_opt};
+ghost use Rattle.maker_groups.specs.Parts.{field_bytes, as_opt};
 
 // How a row's word is made: one byte from a to b; b bytes of the text from offset a on; the first k bytes by row a and the rest by row b;
 // or the empty word.
@@ -14,21 +14,29 @@ pub enum Opt {
     Nil,
 }
 
-// An option at o, by the paper's number of its kind.
-pub fn put_option(list: &mut [u8], o: usize, x: Opt) -> usize
+// The eight bytes of an option at o: its kind, its fields, and a field that is zero.
+pub fn put_fields(list: &mut [u8], o: usize, kind: u8, k: u8, a: usize, b: usize) -> usize
     requires { o + 8 ≤ length list.old }
-    ensures { Put (option_bytes (as_opt x)) o list.old list.new result }
+    ensures { Put (field_bytes kind k a b) o list.old list.new result }
 {
-    let (kind, k, a, b) = match x {
-        Opt::Byte(low, high) => (1, 0, low, high),
-        Opt::Stretch(off, len) => (2, 0, off, len),
-        Opt::Split(k, a, b) => (3, k, a, b),
-        Opt::Nil => (4, 0, 0, 0),
-    };
     let p = numbers::put_bytes(list, o, &[kind, k]);
     let p = numbers::put_u16(list, p, a);
     let p = numbers::put_u16(list, p, b);
     numbers::put_u16(list, p, 0)
+}
+
+// An option at o, by the paper's number of its kind.
+#[tactic(auto, unfolding(paper::specs::Cuts::option_bytes, crate::specs::Parts::field_bytes))]
+pub fn put_option(list: &mut [u8], o: usize, x: Opt) -> usize
+    requires { o + 8 ≤ length list.old }
+    ensures { Put (option_bytes (as_opt x)) o list.old list.new result }
+{
+    match x {
+        Opt::Byte(low, high) => put_fields(list, o, 1, 0, low, high),
+        Opt::Stretch(off, len) => put_fields(list, o, 2, 0, off, len),
+        Opt::Split(k, a, b) => put_fields(list, o, 3, k, a, b),
+        Opt::Nil => put_fields(list, o, 4, 0, 0, 0),
+    }
 }
 
 // A head at o.

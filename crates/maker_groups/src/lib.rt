@@ -54,7 +54,7 @@ fn put_options(list: &mut [u8], o: usize, plan: &Plan, m: usize, r: usize) -> us
     }
     let mut end = o;
     let mut p = 0;
-    while let Some(q) = plan.next(m, r, p) {
+    while let Some(q) = plan.next(m, r, p, plan.sheet.rows.count) {
         end = put_own(list, end, plan.sheet.row(q), m, q);
         p = q + 1;
     }

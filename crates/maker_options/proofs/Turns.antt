@@ -105,28 +105,28 @@ module _ (p : Plan) where
     rows_in : r < length (grammar p).rows
     rows_in = omega (arith, plan_rows)
 
-    passed : (a b : ℕ) → First (chosen p.table r m) a p.sheet.now.rows.count b → from_below (grammar p) m r b ≡ from_below (grammar p) m r a
-    passed a b h = below_next (grammar p) p.n p.table p.ready m r low high rows_in a b (rw plan_rows at h)
+    passed : (a b : ℕ) → First (chosen p.table.now r m) a p.sheet.now.rows.count b → from_below (grammar p) m r b ≡ from_below (grammar p) m r a
+    passed a b h = below_next (grammar p) p.n p.table.now p.ready m r low high rows_in a b (rw plan_rows at h)
 
     all_rows : options (grammar p) m r ≡ from_below (grammar p) m r p.sheet.now.rows.count
-    all_rows = below_done (grammar p) p.n p.table p.ready m r low high rows_in p.sheet.now.rows.count plan_rows
+    all_rows = below_done (grammar p) p.n p.table.now p.ready m r low high rows_in p.sheet.now.rows.count plan_rows
 
     -- from row a on, row q is met next
-    pub met_turn : (a q : ℕ) (x : Row) → FirstOf (chosen p.table r m) a p.sheet.now.rows.count (Some q) → RowRead p.sheet.now.bytes.now q x
+    pub met_turn : (a q : ℕ) (x : Row) → FirstOf (chosen p.table.now r m) a p.sheet.now.rows.count (Some q) → RowRead p.sheet.now.bytes.now q x
         → from_below (grammar p) m r (q + 1) ≡ from_below (grammar p) m r a ++ own_opts m q (as_row x)
     met_turn a q x h y =
-        below_more (grammar p) p.n p.table p.ready m r low high rows_in q (omega (arith, h.0, plan_rows)) (h.1.hit h.0) ∙ rw (passed a q h.1, y.same)
+        below_more (grammar p) p.n p.table.now p.ready m r low high rows_in q (omega (arith, h.0, plan_rows)) (h.1.hit h.0) ∙ rw (passed a q h.1, y.same)
 
-    pub met_length : (a q : ℕ) (x : Row) → FirstOf (chosen p.table r m) a p.sheet.now.rows.count (Some q) → RowRead p.sheet.now.bytes.now q x
+    pub met_length : (a q : ℕ) (x : Row) → FirstOf (chosen p.table.now r m) a p.sheet.now.rows.count (Some q) → RowRead p.sheet.now.bytes.now q x
         → length (from_below (grammar p) m r (q + 1)) ≡ length (from_below (grammar p) m r a) + length (own_opts m q (as_row x))
     met_length a q x h y = ap length (met_turn a q x h y) ∙ length-append (from_below (grammar p) m r a) (own_opts m q (as_row x))
 
     -- from row a on, no row is met
-    pub met_all : (a : ℕ) → FirstOf (chosen p.table r m) a p.sheet.now.rows.count None → options (grammar p) m r ≡ from_below (grammar p) m r a
+    pub met_all : (a : ℕ) → FirstOf (chosen p.table.now r m) a p.sheet.now.rows.count None → options (grammar p) m r ≡ from_below (grammar p) m r a
     met_all a h = all_rows ∙ passed a p.sheet.now.rows.count h
 
     -- a row's own options are among the row's options
-    pub met_inside : (a q : ℕ) (x : Row) → FirstOf (chosen p.table r m) a p.sheet.now.rows.count (Some q) → RowRead p.sheet.now.bytes.now q x
+    pub met_inside : (a q : ℕ) (x : Row) → FirstOf (chosen p.table.now r m) a p.sheet.now.rows.count (Some q) → RowRead p.sheet.now.bytes.now q x
         → length (from_below (grammar p) m r a) + length (own_opts m q (as_row x)) ≤ length (options (grammar p) m r)
     met_inside a q x h y =
         omega (arith, met_length a q x h y, below_rises (grammar p) m r (q + 1) p.sheet.now.rows.count (omega (arith, h.0)), ap length all_rows)

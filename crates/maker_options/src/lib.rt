@@ -6,6 +6,7 @@ mod ready;
 mod sizes;
 
 pub use plan::Plan;
+pub use ready::prepare;
 pub use sizes::own_count;
 
 // The most rows.

@@ -1,10 +1,10 @@
-// The table of a plan made.
+// What is made once a call: a plan's table.
 ghost use Rattle.std.specs.Prelude.{◌≡◌, ◌+◌, ◌≤◌, ◌<◌};
 ghost use Rattle.paper.specs.Sheet.{grammar_of};
 ghost use Rattle.maker_options.specs.Giving.{giving};
-ghost use Rattle.maker_options.specs.Prepared.{Turned, Given};
+ghost use Rattle.maker_options.specs.Prepared.{Turned, Given, Ready};
 
-use super::{Plan, ROWS, WORDS, own_count};
+use super::{ROWS, WORDS, own_count};
 use sheet::Sheet;
 
 // The rows below n whose entry in `from` holds row r, into entry r, for each row r below n.
@@ -37,23 +37,15 @@ fn give(sheet: &Sheet, n: usize, ws: &mut [u64; WORDS])
     }
 }
 
-impl<'a> Plan<'a> {
-    // The plan for a row of a sheet and a length.
-    pub fn of(sheet: &'a Sheet<'a>, root: usize, n: usize) -> Self
-        requires { (root < sheet.now.rows.count) × (n ≤ 60) }
-        ensures { (result.sheet.now ≡ sheet.now) × (result.root ≡ root) × (result.n ≡ n) }
-    {
-        let nulls = rows::nulls(sheet);
-        let reach = rows::reach(sheet, &nulls);
-        let mut table = [0u64; WORDS];
-        turn(&reach, sheet.rows.count, &mut table);
-        workspace::copy(&mut table, ROWS, &nulls, 0);
-        give(sheet, n, &mut table);
-        Plan {
-            sheet,
-            root,
-            n,
-            table,
-        }
-    }
+// The table for the rows of a sheet and the lengths up to n.
+pub fn prepare(sheet: &Sheet, n: usize, table: &mut [u64; WORDS])
+    requires { n ≤ 60 }
+    ensures { Ready (grammar_of sheet.now.bytes.now) n table.new }
+{
+    let nulls = rows::nulls(sheet);
+    let mut reach = [0; 4 * ROWS];
+    rows::reach(sheet, &nulls, &mut reach);
+    turn(&reach, sheet.rows.count, table);
+    workspace::copy(table, ROWS, &nulls, 0);
+    give(sheet, n, table);
 }

@@ -30,15 +30,17 @@ impl Plan<'_> {
         requires { r < self.now.sheet.now.rows.count }
         ensures { result ≡ nullable (grammar self.now) r }
     {
-        workspace::test(&self.table, ROWS, r)
+        let table = self.table;
+        workspace::test(table, ROWS, r)
     }
 
-    // The first row from p on that row r reaches and that gives an option at length m, if there is one.
-    pub fn next(&self, m: usize, r: usize, p: usize) -> Option<usize>
-        requires { (m ≤ self.now.n) × (r < self.now.sheet.now.rows.count) × (p ≤ self.now.sheet.now.rows.count) }
-        ensures { FirstOf (chosen self.now.table r m) p self.now.sheet.now.rows.count result }
+    // The first row from p on and below n that row r reaches and that gives an option at length m, if there is one.
+    pub fn next(&self, m: usize, r: usize, p: usize, n: usize) -> Option<usize>
+        requires { (m ≤ 60) × (r < 256) × (p ≤ n) × (n ≤ 256) }
+        ensures { FirstOf (chosen self.now.table.now r m) p n result }
     {
-        workspace::next(&self.table, r, ROWS + m, p, self.sheet.rows.count)
+        let table = self.table;
+        workspace::next(table, r, ROWS + m, p, n)
     }
 
     // How many options row r has at length m. (An iterator over the rows met, with its laws, would be longer than both loops that walk so.)
@@ -51,7 +53,7 @@ impl Plan<'_> {
         }
         let mut c = 0;
         let mut p = 0;
-        while let Some(q) = self.next(m, r, p) {
+        while let Some(q) = self.next(m, r, p, self.sheet.rows.count) {
             c += own_count(self.sheet.row(q), m);
             p = q + 1;
         }

@@ -1,13 +1,13 @@
 -- Bytes stored one part behind the other.
 -- Assumes nothing.
-use Prim.Native.Nat.{ℕ, suc, ◌+◌, ◌-◌, ◌/◌, ◌%◌, ◌≤◌}
-use mathlib.Core.Path.{◌≡◌, refl, sym, ap, ◌∙◌, subst}
-use mathlib.Core.List.{List, [], ◌∷◌, ◌++◌, append_assoc}
+use Prim.Native.Nat.{ℕ, suc, ◌+◌, ◌/◌, ◌%◌, ◌≤◌, ◌<◌}
+use mathlib.Core.Path.{◌≡◌, refl, sym, ◌∙◌, subst}
+use mathlib.Core.List.{List, [], ◌∷◌, ◌++◌}
 use native.Mathlib.Omega.{arith}
+use native.Mathlib.Numerals.{add-one}
 use native.Mathlib.Nat.{add-zero, zero-add, add-suc, suc-add}
-use lib.ListN.{length, take, drop, set, length-append}
-use lib.Seq.{sets, sets-eq}
-use borrow.Rule.Slice.PartMut.{put_mid, Post-is}
+use lib.ListN.{length, take, get_or, set, length-append}
+use lib.Seq.{sets, sets-eq, take-suc, length-take-le}
 use Rattle.std.specs.Int.{to_le_bytes}
 use Rattle.std.proofs.Common.{w16, w32}
 use Rattle.paper.specs.Bytes.{u16, u32}
@@ -33,12 +33,12 @@ put_more {x = x} {y = y} {o = o} {p = p} {a = a} f h = record {
 pub put_same : {x y : List ℕ} {o e : ℕ} {a b : List ℕ} → x ≡ y → Put x o a b e → Put y o a b e
 put_same {o = o} {e = e} {a = a} {b = b} h f = subst (λ (z : List ℕ). Put z o a b e) h f
 
--- x copied over the part from o on
-pub put_over : (l x : List ℕ) (o : ℕ) → o + length x ≤ length l → Put x o l (put_mid o (o + length x - o) l x) (o + length x)
-put_over l x o h = record {
-  bytes = ap (λ (z : List ℕ). take o l ++ (x ++ z)) (Post-is o (o + length x) l (omega arith)) ∙ sym (append_assoc (take o l) x (drop (o + length x) l)) ∙ sym (sets-eq x l o h);
-  stop = refl;
-}
+-- one byte more of x
+pub put_next : {l now : List ℕ} {o e : ℕ} (x : List ℕ) (i : ℕ) → i < length x → Put (take i x) o l now e → Put (take (i + 1) x) o l (set now (o + i) (get_or x i 0)) (o + (i + 1))
+put_next {now = now} {o = o} x i h f =
+    let n : length (take i x) ≡ i = length-take-le i x (omega arith) in
+    let e : take i x ++ (get_or x i 0 ∷ []) ≡ take (i + 1) x = rw add-one (sym (take-suc x i 0 h)) in
+    put_same e (put_more {x = take i x} {y = get_or x i 0 ∷ []} {p = o + i} (record { bytes = f.bytes; stop = rw n }) (record { bytes = refl; stop = omega arith }))
 
 -- a number's bytes, as the library has them
 

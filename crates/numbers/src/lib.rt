@@ -51,13 +51,13 @@ pub fn put_u32(list: &mut [u8], o: usize, x: usize) -> usize
     put_bytes(list, o, &((x % 4294967296) as u32).to_le_bytes())
 }
 
-// The bytes x at o.
-#[tactic(auto, using(crate::proofs::Stores::put_over))]
+// The bytes x at o. A loop, for a slice copied whole wants `memmove` of whoever links the library.
 pub fn put_bytes(list: &mut [u8], o: usize, x: &[u8]) -> usize
     requires { o + length x.now ≤ length list.old }
     ensures { Put x.now o list.old list.new result }
 {
-    let end = o + x.len();
-    list[o..end].copy_from_slice(x);
-    end
+    for (i, b) in x.iter().enumerate() {
+        list[o + i] = *b;
+    }
+    o + x.len()
 }

@@ -95,11 +95,12 @@ impl<'a> Reading<'a> {
     }
 }
 
-// Whether the root's head accepts the word, with the list's trailer as `list::formed_trailer` gives it. The bits start from zero, and none is left.
-pub fn read(list: &[u8], t: Trailer, text: &[u8], word: &[u8], work: &mut Workspace) -> bool
-    requires { Readable list.now text.now word.now × Trailed list.now t }
+// Whether the root's head accepts the word. The bits start from zero, and none is left.
+pub fn read(list: &[u8], text: &[u8], word: &[u8], work: &mut Workspace) -> bool
+    requires { Readable list.now text.now word.now }
     ensures { (result ≡ reading list.now text.now word.now) × (work.new ≡ replicate words 0) }
 {
+    let t = fields::trailer_of(list);
     let reading = Reading {
         list,
         t,

@@ -168,24 +168,22 @@ impl Rule<1024> for Reaching<'_> {
     }
 }
 
-// Each row reaches itself.
-fn start(n: usize) -> [u64; 1024]
-    requires { n ≤ 256 }
-    ensures { Started n result }
+// Each of the first n rows reaches itself.
+fn start(out: &mut [u64; 1024], n: usize)
+    requires { (n ≤ 256) × Started 0 out.old }
+    ensures { Started n out.new }
 {
-    let mut out = [0; 1024];
     for q in 0..n {
-        workspace::set(&mut out, q, q);
+        workspace::set(out, q, q);
     }
-    out
 }
 
-// The rows that reach row q, in entry q.
-pub fn reach(sheet: &Sheet, nulls: &[u64; 4]) -> [u64; 1024]
+// The rows that reach row q, into entry q. The table is lent: handed back it would be copied, and stand on the stack more than once.
+pub fn reach(sheet: &Sheet, nulls: &[u64; 4], out: &mut [u64; 1024])
     requires { Nulls (grammar_of sheet.now.bytes.now) nulls.now }
-    ensures { Reached (grammar_of sheet.now.bytes.now) result }
+    ensures { Reached (grammar_of sheet.now.bytes.now) out.new }
 {
-    let mut out = start(sheet.rows.count);
-    settle(&Reaching { sheet, nulls }, &mut out, true);
-    out
+    out.fill(0);
+    start(out, sheet.rows.count);
+    settle(&Reaching { sheet, nulls }, out, true);
 }

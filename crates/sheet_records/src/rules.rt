@@ -7,7 +7,7 @@ use sheet_contents::{Claim, Part, Row, claim_of, pair_at, part_of, row_of};
 use sheet_trailer::Trailer;
 
 #[tactic(auto, unfolding(paper::specs::Records::letter_ok))]
-fn letter_ok(s: &[u8], o: usize) -> bool
+pub fn letter_ok(s: &[u8], o: usize) -> bool
     requires { o + 2 ≤ length s.now }
     ensures { result ≡ letter_ok s.now o }
 {
@@ -31,7 +31,7 @@ fn row_fields(rows: usize, text: usize, kind: u8, a: usize, b: usize) -> bool
 }
 
 #[tactic(auto, unfolding(paper::specs::Records::row_ok))]
-fn row_ok(s: &[u8], o: usize, rows: usize, text: usize) -> bool
+pub fn row_ok(s: &[u8], o: usize, rows: usize, text: usize) -> bool
     requires { o + 6 ≤ length s.now }
     ensures { result ≡ row_ok s.now o rows text }
 {
@@ -53,7 +53,7 @@ fn part_fields(text: usize, kind: u8, a: usize, b: usize) -> bool
 }
 
 #[tactic(auto, unfolding(paper::specs::Records::part_ok))]
-fn part_ok(s: &[u8], o: usize, text: usize) -> bool
+pub fn part_ok(s: &[u8], o: usize, text: usize) -> bool
     requires { o + 6 ≤ length s.now }
     ensures { result ≡ part_ok s.now o text }
 {
@@ -76,7 +76,7 @@ fn assert_fields(text: usize, rows: usize, parts: usize, kind: u8, a: usize, b: 
 }
 
 #[tactic(auto, unfolding(paper::specs::Records::assert_ok))]
-fn assert_ok(s: &[u8], o: usize, text: usize, rows: usize, parts: usize) -> bool
+pub fn assert_ok(s: &[u8], o: usize, text: usize, rows: usize, parts: usize) -> bool
     requires { o + 12 ≤ length s.now }
     ensures { result ≡ assert_ok s.now o text rows parts }
 {

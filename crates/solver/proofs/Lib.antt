@@ -1,3 +1,4 @@
 pub mod Coincide
 pub mod Solving
 pub mod Short
+pub mod Walking

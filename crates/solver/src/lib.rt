@@ -11,6 +11,7 @@ ghost use Rattle.solver.specs.Reported.{solved};
 use groundwork::Groundwork;
 use search::Sought;
 use sheet::{Fault, Sheet};
+use walk::Walk;
 use walk_state::Prefix;
 use workspace::Workspace;
 
@@ -24,7 +25,7 @@ pub enum Solved {
 
 // The word at the start of the output.
 fn put_word(p: Prefix, out: &mut [u8])
-    requires { p.len ≤ length out.old }
+    requires { (p.len ≤ 60) × (p.len ≤ length out.old) }
     ensures { out.new ≡ written (take p.len p.bytes) out.old }
 {
     out[..p.len].copy_from_slice(&p.bytes[..p.len]);
@@ -35,9 +36,16 @@ fn searched(sheet: &Sheet, budget: u64, work: &mut Workspace) -> Sought
     ensures { Tells sheet.now.longest (under budget (walk_of (sheet_of sheet.now.bytes.now))) result }
 {
     let letters = search::letters::letters_of(sheet);
-    let g = Groundwork::of(sheet, &letters.of);
+    let empty = rows::nulls(sheet);
+    let mut reach = [0; 1024];
+    rows::reach(sheet, &empty, &mut reach);
+    let g = Groundwork::of(sheet, &letters.of, &empty, &reach);
     let slots = alike::slots_of(sheet);
-    search::seek(&g, &slots, budget, work)
+    let walk = Walk {
+        letters,
+        slots: &slots,
+    };
+    search::seek(&g, &walk, sheet.shortest, budget, work)
 }
 
 // The answer of an accepted sheet, lent enough.
@@ -63,7 +71,8 @@ fn answer(sheet: &Sheet, budget: u64, work: &mut Workspace, out: &mut [u8]) -> S
 pub fn solve(sheet: &[u8], budget: u64, work: &mut [u64], out: &mut [u8]) -> Result<Solved, Fault>
     ensures { Solves solved sheet.now budget work.old out.old result work.new out.new }
 {
-    let accepted = Sheet::read(sheet, sheet::LATEST)?;
+    sheet::check(sheet)?;
+    let accepted = Sheet::of(sheet);
     let Some(work) = work.first_chunk_mut::<{ paper::WORDS }>() else {
         return Err(Fault::Workspace);
     };

@@ -45,13 +45,13 @@ abbrev pub InsideTo : List ℕ → (first n i : ℕ) → Type 0
 InsideTo s first n i = (j : ℕ) → j < i → cut_inside (sheet_of s).rules n (get_or (sheet_of s).parts (first + j) All) ≡ true
 
 module _ (s : List ℕ) (r : Run) (run : r.first + r.count ≤ count_of s 3) where
-  run_length : length (parts_of (sheet_of s) r) ≡ r.count
+  pub run_length : length (parts_of (sheet_of s) r) ≡ r.count
   unfolding parts_of
   run_length =
       let l = parts_length s in
       length-take-le r.count (drop r.first (sheet_of s).parts) (rw length-drop (omega arith))
 
-  run_at : (i : ℕ) → i < r.count → (d : Part) → get_or (parts_of (sheet_of s) r) i d ≡ get_or (sheet_of s).parts (r.first + i) d
+  pub run_at : (i : ℕ) → i < r.count → (d : Part) → get_or (parts_of (sheet_of s) r) i d ≡ get_or (sheet_of s).parts (r.first + i) d
   unfolding parts_of
   run_at i h d = get_or-take r.count (drop r.first (sheet_of s).parts) i d h ∙ get_or-drop r.first (sheet_of s).parts i d
 

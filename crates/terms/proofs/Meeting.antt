@@ -19,7 +19,7 @@ use Rattle.terms.specs.declared.places.Places.{Places}
 use Rattle.terms.specs.Shown.{shown, meet_all}
 use Rattle.terms.proofs.Showing.{shown_length}
 
-shown_at : (p : Places) (i : ℕ) → i < p.len → get_or (shown p) i Unknown ≡ place_of (get_or p.of i None)
+pub shown_at : (p : Places) (i : ℕ) → i < p.len → get_or (shown p) i Unknown ≡ place_of (get_or p.of i None)
 unfolding shown
 shown_at p i h = places_at (take p.len p.of) i ∙ ap place_of (get_or-take p.len p.of i None h)
 

@@ -1,12 +1,11 @@
 -- The turns of the climb, over the state by value and the remembered counts.
-use mathlib.Core.Path.{◌≡◌, sym, ◌∙◌}
+use mathlib.Core.Path.{◌≡◌, sym}
 use Prim.Native.Nat.{ℕ, zero, suc, ◌+◌, ◌-◌, ◌*◌, ◌≤◌, ◌<◌}
 use native.Mathlib.Omega.{arith}
 use native.Mathlib.Numerals.{add-one}
 use mathlib.Core.Bool.{Bool}
 use mathlib.Core.List.{List}
 use lib.ListN.{length, get_or, set}
-use lib.Seq.{get_or-set_other}
 use Rattle.std.specs.Prelude.{Some, None}
 use Rattle.walk_state.specs.declared.state.State.{State}
 use Rattle.walk_state.specs.Letters.{FirstFrom}
@@ -74,7 +73,7 @@ module _ (is : ℕ → Bool) (slot : List ℕ) (budget : ℕ) (p : State) (m₀ 
       → Climbing is slot budget p m₀ q (noted_at m q.prefix.len (get_or slot (last_of q.prefix) 0) (since_of q))
   unfolding Fin
   climb_note q m i pos y =
-      let r = q.prefix.fits in
+      let r = i.frame.short in
       let u = i.frame.letters in
       record {
         shorter = i.shorter;
@@ -90,51 +89,51 @@ module _ (is : ℕ → Bool) (slot : List ℕ) (budget : ℕ) (p : State) (m₀ 
             → Fin is slot opens n q.prefix.len (set q.prefix.bytes (q.prefix.len - 1) b) (set q.begun q.prefix.len q.trials) m (q.trials + x)
         unfolding Fin
         skipped opens n c d =
-            let r = q.prefix.fits in
+            let r = i.frame.short in
             let u = i.frame.letters in
             let v = i.frame.notes in
             let z = seen_known m q.prefix.len (get_or slot b 0) x (sym e) in
             skip_at is slot opens n q.prefix.len q.prefix.bytes q.begun m q.trials b x (i.to opens n c d) pos (omega arith) (omega arith) f z.0 z.1
 
         -- the budget suffices for it
-        pub climb_skip : (r : State) (g : _) → r ≡ next_of q b g → (h : _) → x ≤ budget - q.trials → Climbing is slot budget p m₀ (counted_of r x h) m
+        pub climb_skip : x ≤ budget - q.trials → Climbing is slot budget p m₀ (counted_of (next_of q b) x) m
         unfolding Fin
-        climb_skip r g y h l =
+        climb_skip l =
             let o = i.frame.most in
             record {
-              shorter = rw y i.shorter;
-              frame = frame_counted budget p r (rw y (frame_next budget p q i.frame b g pos)) x h (rw y (omega arith));
-              to = λ opens n c d. rw y (skipped opens n c d);
+              shorter = i.shorter;
+              frame = frame_counted budget p (next_of q b) (frame_next budget p q i.frame b pos) x (omega arith);
+              to = skipped;
             }
 
         -- it does not
         pub climb_over : budget - q.trials < x → Climbed is slot budget p m₀ None m
         unfolding Fin
         climb_over l opens n c d =
-            rw (get_or-set_other q.begun q.prefix.len 0 q.trials 0 (omega arith) ∙ i.frame.root) at
+            rw (frame_next budget p q i.frame b pos).root at
             (done_over is opens n q.prefix.len (set q.prefix.bytes (q.prefix.len - 1) b) (set q.begun q.prefix.len q.trials) (q.trials + x) budget (skipped opens n c d).0 (omega arith))
 
       -- it is not
-      pub climb_next : (g : _) → Climbed is slot budget p m₀ (Some (next_of q b g)) m
+      pub climb_next : Climbed is slot budget p m₀ (Some (next_of q b)) m
       unfolding Fin
-      climb_next g =
-          let r = q.prefix.fits in
+      climb_next =
+          let r = i.frame.short in
           let u = i.frame.letters in
           let v = i.frame.notes in
           record {
             shorter = i.shorter;
-            frame = frame_next budget p q i.frame b g pos;
+            frame = frame_next budget p q i.frame b pos;
             to = λ opens n c d. next_at is slot opens n q.prefix.len q.prefix.bytes q.begun m q.trials b (i.to opens n c d) pos (omega arith) (omega arith) f;
           }
 
     -- there is none
-    pub climb_back : (h : _) (g : _) → FirstFrom is (last_of q.prefix + 1) None → Climbing is slot budget p m₀ (back_of q h g) m
+    pub climb_back : FirstFrom is (last_of q.prefix + 1) None → Climbing is slot budget p m₀ (back_of q) m
     unfolding Fin
-    climb_back h g f =
+    climb_back f =
         let a = i.shorter in
         record {
           shorter = omega arith;
-          frame = frame_back budget p q i.frame h g;
+          frame = frame_back budget p q i.frame;
           to = λ opens n c d. back_at is slot opens n q.prefix.len q.prefix.bytes q.begun m q.trials (i.to opens n c d) pos f;
         }
 

@@ -2,60 +2,77 @@
 use mathlib.Core.Path.{◌≡◌, refl, ◌∙◌}
 use Prim.Native.Nat.{ℕ, ◌+◌, ◌≤◌, ◌<◌}
 use native.Mathlib.Omega.{arith}
-use lib.ListN.{length, length-set}
-use lib.Seq.{get_or-set_other}
+use native.Mathlib.Decide.{ℕ_discrete}
+use mathlib.Core.Logic.{◌≢◌}
+use mathlib.Core.List.{List}
+use lib.ListN.{length, get_or, set, length-set}
+use lib.Seq.{get_or-set_same, get_or-set_other}
 use Rattle.walk_state.specs.declared.state.State.{State}
-use Rattle.walk_state.specs.Moves.{down_of, next_of, back_of, counted_of, again_of}
+use Rattle.walk_state.specs.Moves.{down_of, next_of, back_of, counted_of, again_of, Marks}
 use Rattle.walk.specs.Posts.{Frame}
 
+marks_set : (s : List ℕ) (k t j : ℕ) → k < length s → (j ≢ k → get_or s j 0 ≤ t) → get_or (set s k t) j 0 ≤ t
+marks_set s k t j h m = go (ℕ_discrete j k)
+  where
+    go : Dec (j ≡ k) → get_or (set s k t) j 0 ≤ t
+    go (yes e) = rw (e, get_or-set_same s k t 0 h) (omega arith)
+    go (no e) = rw (get_or-set_other s k j t 0 e) (m e)
+
 module _ (budget : ℕ) where
-  pub frame_start : (q : State) → length q.prefix.bytes ≡ 60 → length q.begun ≡ 61 → q.trials ≤ budget → Frame budget q q
-  frame_start q l v t = record { letters = l; notes = v; more = omega arith; most = t; root = refl }
+  pub frame_start : (q : State) → q.prefix.len ≤ 60 → length q.prefix.bytes ≡ 60 → length q.begun ≡ 61 → q.trials ≤ budget → Marks q → Frame budget q q
+  frame_start q h l v t m = record { short = h; letters = l; notes = v; more = omega arith; most = t; root = refl; marks = m }
 
   module _ (p q : State) (f : Frame budget p q) where
     pub frame_here : Frame budget q q
-    frame_here = frame_start q f.letters f.notes f.most
+    frame_here = frame_start q f.short f.letters f.notes f.most f.marks
 
-    pub frame_next : (b : ℕ) (m : _) → 0 < q.prefix.len → Frame budget p (next_of q b m)
-    frame_next b m pos =
+    pub frame_next : (b : ℕ) → 0 < q.prefix.len → Frame budget p (next_of q b)
+    frame_next b pos =
+        let h = f.short in
         let l = f.letters in
         let v = f.notes in
         record {
+          short = h;
           letters = simp length-set l;
           notes = simp length-set v;
           more = f.more;
           most = f.most;
           root = get_or-set_other q.begun q.prefix.len 0 q.trials 0 (omega arith) ∙ f.root;
+          marks = λ j i. marks_set q.begun q.prefix.len q.trials j (omega arith) (λ e. f.marks j i);
         }
 
-    pub frame_down : (b : ℕ) (h : _) (m : _) → Frame budget p (down_of q b h m)
-    frame_down b h m =
+    pub frame_down : (b : ℕ) → q.prefix.len < 60 → Frame budget p (down_of q b)
+    frame_down b h =
         let l = f.letters in
         let v = f.notes in
         record {
+          short = omega arith;
           letters = simp length-set l;
           notes = simp length-set v;
           more = f.more;
           most = f.most;
           root = get_or-set_other q.begun (q.prefix.len + 1) 0 q.trials 0 (omega arith) ∙ f.root;
+          marks = λ j i. marks_set q.begun (q.prefix.len + 1) q.trials j (omega arith) (λ e. f.marks j (omega arith));
         }
 
-    pub frame_back : (h : _) (m : _) → Frame budget p (back_of q h m)
-    frame_back h m = record { letters = f.letters; notes = f.notes; more = f.more; most = f.most; root = f.root }
+    pub frame_back : Frame budget p (back_of q)
+    frame_back =
+        let h = f.short in
+        record { short = omega arith; letters = f.letters; notes = f.notes; more = f.more; most = f.most; root = f.root; marks = λ j i. f.marks j (omega arith) }
 
-    pub frame_counted : (t : ℕ) (m : _) → q.trials + t ≤ budget → Frame budget p (counted_of q t m)
-    frame_counted t m h =
-        let y = f.more in
-        record { letters = f.letters; notes = f.notes; more = omega arith; most = h; root = f.root }
+    pub frame_counted : (t : ℕ) → q.trials + t ≤ budget → Frame budget p (counted_of q t)
+    frame_counted t h =
+        let m = f.more in
+        record { short = f.short; letters = f.letters; notes = f.notes; more = omega arith; most = h; root = f.root; marks = λ j i. omega (arith, f.marks j i) }
 
     -- the next length has its root at the trials made
-    pub frame_again : (m : _) → Frame budget (again_of q m) (again_of q m)
-    frame_again m =
+    pub frame_again : Frame budget (again_of q) (again_of q)
+    frame_again =
         let v = f.notes in
-        frame_start (again_of q m) f.letters (simp length-set v) f.most
+        frame_start (again_of q) f.short f.letters (simp length-set v) f.most (λ j i. marks_set q.begun 0 q.trials j (omega arith) (λ e. f.marks j i))
 
   -- from before some trials were counted
-  pub frame_before : (p q : State) (t : ℕ) (m : _) → Frame budget (counted_of p t m) q → Frame budget p q
-  frame_before p q t m f =
-      let y = f.more in
-      record { letters = f.letters; notes = f.notes; more = omega arith; most = f.most; root = f.root }
+  pub frame_before : (p q : State) (t : ℕ) → Frame budget (counted_of p t) q → Frame budget p q
+  frame_before p q t f =
+      let m = f.more in
+      record { short = f.short; letters = f.letters; notes = f.notes; more = omega arith; most = f.most; root = f.root; marks = f.marks }

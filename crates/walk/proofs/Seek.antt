@@ -4,7 +4,7 @@ use Prim.Native.Nat.{ℕ, ◌+◌, ◌≤◌, ◌<◌}
 use native.Mathlib.Omega.{arith}
 use mathlib.Core.Bool.{Bool, true}
 use mathlib.Core.List.{List}
-use lib.ListN.{take, get_or, set, replicate}
+use lib.ListN.{take, get_or, set}
 use lib.Seq.{get_or-set_same}
 use Rattle.paper.specs.Walk.{walk}
 use Rattle.paper.specs.Answers.{Found, None, Spent, under}
@@ -26,14 +26,14 @@ module _ (is : ℕ → Bool) (slot : List ℕ) (opens : ℕ → List ℕ → Boo
     pub sofar : Length is slot opens lo hi n (get_or q.begun 0 0)
     pub at : Judging is slot opens n q m
 
-  pub seek_start : (q : State) (m : Counts) (z : _) (g : _) → q ≡ start_state z g → lo ≤ hi → hi ≤ 60 → Seeking lo q m
-  seek_start q m z g e h t = rw e record {
+  pub seek_start : (q : State) (m : Counts) → q ≡ start_state → lo ≤ hi → hi ≤ 60 → Seeking lo q m
+  seek_start q m e h t = rw e record {
     range = h;
     top = t;
     within = omega arith;
-    frame = frame_start budget (start_state z g) refl refl (omega arith);
+    frame = frame_start budget start_state (omega arith) refl refl (omega arith) (λ j i. let z : j ≡ 0 = omega arith in rw z (omega arith));
     sofar = first_length is slot opens lo hi;
-    at = at_root is slot opens lo hi lo (replicate 60 0) (replicate 61 0) m 0 refl;
+    at = at_root is slot opens lo hi lo start_state.prefix.bytes start_state.begun m 0 refl;
   }
 
   module _ (n : ℕ) (q : State) (m : Counts) (s : Seeking n q m) where
@@ -59,8 +59,8 @@ module _ (is : ℕ → Bool) (slot : List ℕ) (opens : ℕ → List ℕ → Boo
         seek_none e f = end_none is slot opens lo hi budget n (get_or q.begun 0 0) r m' f e a.frame.most a.frame.root s.sofar (a.to opens classes s.at o)
 
         -- the next length
-        pub seek_length : r.prefix.len ≡ 0 → (n ≡ hi → ⊥) → (y : _) → Seeking (n + 1) (again_of r y) m'
-        seek_length e f y =
+        pub seek_length : r.prefix.len ≡ 0 → (n ≡ hi → ⊥) → Seeking (n + 1) (again_of r) m'
+        seek_length e f =
             let l = a.frame.notes in
             let k = s.range in
             let g : get_or (set r.begun 0 r.trials) 0 0 ≡ r.trials = get_or-set_same r.begun 0 r.trials 0 (omega arith) in
@@ -68,7 +68,7 @@ module _ (is : ℕ → Bool) (slot : List ℕ) (opens : ℕ → List ℕ → Boo
               range = omega arith;
               top = s.top;
               within = omega arith;
-              frame = frame_again budget q r a.frame y;
+              frame = frame_again budget q r a.frame;
               sofar = rw g (next_length is slot opens lo hi n (get_or q.begun 0 0) r m' (omega arith) e a.frame.root s.sofar (a.to opens classes s.at o));
               at = rw e (at_root is slot opens lo hi (n + 1) r.prefix.bytes (set r.begun 0 r.trials) m' r.trials g);
             }

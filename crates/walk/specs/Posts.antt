@@ -1,16 +1,19 @@
 -- What the functions of the walk promise to each other.
 use Rattle.std.specs.Prelude.{◌≡◌, ℕ, ◌≤◌, ◌<◌, Bool, List, length, get_or, take, Option, Some, None}
 use Rattle.walk_state.specs.declared.state.State.{State}
+use Rattle.walk_state.specs.Moves.{Marks}
 use Rattle.walk.specs.Counts.{Counts}
 use Rattle.walk.specs.Progress.{Classes, Judging, Finished, Landed, Over}
 
--- the walk has come from p to q: q's sizes, its trials within the budget, and its root that of p
+-- the walk has come from p to q: q's sizes, its trials within the budget, its root that of p, and its marks
 pub record Frame (budget : ℕ) (p q : State) : Type 0 where
+  pub short : q.prefix.len ≤ 60
   pub letters : length q.prefix.bytes ≡ 60
   pub notes : length q.begun ≡ 61
   pub more : p.trials ≤ q.trials
   pub most : q.trials ≤ budget
   pub root : get_or q.begun 0 0 ≡ get_or p.begun 0 0
+  pub marks : Marks q
 
 -- m and m' are the counts before and after
 module _ (is : ℕ → Bool) (slot : List ℕ) (budget : ℕ) where

@@ -6,11 +6,11 @@ mod slots;
 
 ghost use Rattle.std.specs.Prelude.{◌≡◌, true, ◌<◌, ◌≤◌, get_or};
 ghost use Rattle.walk_state.specs.Letters.{has_letter};
-ghost use Rattle.walk_state.specs.Moves.{last_of, since_of};
+ghost use Rattle.walk_state.specs.Moves.{last_of, since_of, Marks};
 ghost use Rattle.walk.specs.Counts.{noted_at, seen_at, forgotten};
 ghost use Rattle.walk.specs.Posts.{Climbed, Advanced};
 
-pub use slots::Slots;
+pub use slots::{Slots, slot_of};
 use walk_state::{Letters, State};
 
 // The trials of a letter of each slot in each place, where they are known.
@@ -35,7 +35,7 @@ pub fn seen(counts: &Counts, len: usize, s: usize) -> Option<u64>
 
 // The trials of the last letter noted for its slot, what is known of the letter b in its place.
 pub fn recall(slots: &Slots, q: State, b: u8, counts: &mut Counts) -> Option<u64>
-    requires { 0 < q.prefix.len }
+    requires { (0 < q.prefix.len) × (q.prefix.len ≤ 60) × Marks q }
     ensures noted { counts.new ≡ noted_at counts.old q.prefix.len (get_or slots.now.of (last_of q.prefix) 0) (since_of q) }
     ensures seen { result ≡ seen_at counts.new q.prefix.len (get_or slots.now.of b 0) }
 {
@@ -64,7 +64,7 @@ impl Walk<'_> {
     // Behind a prefix and its extensions: the next letter in its last place whose trials are not known, or in that of the nearest shorter one
     // that has such; those that are known are counted on the way. None where the budget does not suffice for them.
     pub fn climb(&self, budget: u64, p: State, counts: &mut Counts) -> Option<State>
-        requires { p.trials ≤ budget }
+        requires { (p.prefix.len ≤ 60) × (p.trials ≤ budget) × Marks p }
         ensures { Climbed (has_letter self.now.letters.of) self.now.slots.now.of budget p counts.old result counts.new }
     {
         let mut q = p;
@@ -93,7 +93,7 @@ impl Walk<'_> {
         q: State,
         counts: &mut Counts,
     ) -> Option<State>
-        requires { (n ≤ 60) × (q.prefix.len ≤ n) × (ok ≡ true → q.prefix.len < n) × (q.trials < budget) }
+        requires { (n ≤ 60) × (q.prefix.len ≤ n) × (ok ≡ true → q.prefix.len < n) × (q.trials < budget) × Marks q }
         ensures { Advanced (has_letter self.now.letters.of) self.now.slots.now.of budget n ok q counts.old result counts.new }
     {
         let p = q.counted(1);

@@ -1,20 +1,18 @@
 // A word's first letters, by value.
-ghost use Rattle.std.specs.Prelude.{◌≤◌};
+ghost use Rattle.std.specs.Prelude.{◌≡◌, ◌<◌, ◌≤◌};
+ghost use Rattle.walk_state.specs.Moves.{empty_prefix, longer, ending, shorter, last_of};
 
-// An array of 60 bytes and how many of them there are, as paper 01 has it: a trial takes no memory.
+// An array of 60 bytes and how many of them there are, as paper 01 has it: a trial takes no memory. That they are at most 60 is no fact of the
+// type: `back` takes any length.
 #[derive(Clone, Copy)]
 pub struct Prefix {
     pub bytes: [u8; 60],
     pub len: usize,
-    pub ghost fits: { len ≤ 60 },
 }
 
 impl Prefix {
-    ghost use Rattle.std.specs.Prelude.{◌≡◌, ◌<◌};
-    ghost use Rattle.walk_state.specs.Moves.{empty_prefix, longer, ending, shorter, last_of};
-
     pub fn empty() -> Self
-        ensures { (h : _) × (result ≡ empty_prefix h) }
+        ensures { result ≡ empty_prefix }
     {
         Prefix {
             bytes: [0; 60],
@@ -25,7 +23,7 @@ impl Prefix {
     // One letter longer.
     pub fn down(mut self, b: u8) -> Self
         requires { self.len < 60 }
-        ensures { (h : _) × (result ≡ longer self b h) }
+        ensures { result ≡ longer self b }
     {
         self.bytes[self.len] = b;
         self.len += 1;
@@ -34,7 +32,7 @@ impl Prefix {
 
     // The next letter in the last place.
     pub fn next(mut self, b: u8) -> Self
-        requires { 0 < self.len }
+        requires { (0 < self.len) × (self.len ≤ 60) }
         ensures { result ≡ ending self b }
     {
         self.bytes[self.len - 1] = b;
@@ -44,7 +42,7 @@ impl Prefix {
     // One letter shorter.
     pub fn back(mut self) -> Self
         requires { 0 < self.len }
-        ensures { (h : _) × (result ≡ shorter self h) }
+        ensures { result ≡ shorter self }
     {
         self.len -= 1;
         self
@@ -52,7 +50,7 @@ impl Prefix {
 
     // The last letter.
     pub fn last(self) -> u8
-        requires { 0 < self.len }
+        requires { (0 < self.len) × (self.len ≤ 60) }
         ensures { result ≡ last_of self }
     {
         self.bytes[self.len - 1]

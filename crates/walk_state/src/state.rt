@@ -1,24 +1,21 @@
 // The walk's state by value: its moves hand it back.
-ghost use Rattle.walk_state.specs.Marks.{Marks};
+ghost use Rattle.std.specs.Prelude.{◌≡◌, ◌+◌, ◌<◌, ◌≤◌};
+ghost use Rattle.walk_state.specs.Moves.{start_state, down_of, next_of, back_of, counted_of, again_of, last_of, since_of, Marks};
 
 use crate::Prefix;
 
-// The prefix at hand, and the trials made.
+// The prefix at hand, and the trials made. `Marks` is no fact of the type: only `since` needs it, and the moves take any state.
 #[derive(Clone, Copy)]
 pub struct State {
     pub prefix: Prefix,
     // The trials at which the present letter of each place was begun; at 0, those at which this length was.
     pub begun: [u64; 61],
     pub trials: u64,
-    pub ghost marks: { Marks prefix.len begun trials },
 }
 
 impl State {
-    ghost use Rattle.std.specs.Prelude.{◌≡◌, ◌+◌, ◌<◌};
-    ghost use Rattle.walk_state.specs.Moves.{start_state, down_of, next_of, back_of, counted_of, again_of, last_of, since_of};
-
     pub fn start() -> Self
-        ensures { (h : _) × (m : _) × (result ≡ start_state h m) }
+        ensures { result ≡ start_state }
     {
         State {
             prefix: Prefix::empty(),
@@ -30,7 +27,7 @@ impl State {
     // One letter longer.
     pub fn down(mut self, b: u8) -> Self
         requires { self.prefix.len < 60 }
-        ensures { (h : _) × (m : _) × (result ≡ down_of self b h m) }
+        ensures { result ≡ down_of self b }
     {
         self.prefix = self.prefix.down(b);
         self.begun[self.prefix.len] = self.trials;
@@ -39,8 +36,8 @@ impl State {
 
     // The next letter in the last place.
     pub fn next(mut self, b: u8) -> Self
-        requires { 0 < self.prefix.len }
-        ensures { (m : _) × (result ≡ next_of self b m) }
+        requires { (0 < self.prefix.len) × (self.prefix.len ≤ 60) }
+        ensures { result ≡ next_of self b }
     {
         self.prefix = self.prefix.next(b);
         self.begun[self.prefix.len] = self.trials;
@@ -50,7 +47,7 @@ impl State {
     // One letter shorter.
     pub fn back(mut self) -> Self
         requires { 0 < self.prefix.len }
-        ensures { (h : _) × (m : _) × (result ≡ back_of self h m) }
+        ensures { result ≡ back_of self }
     {
         self.prefix = self.prefix.back();
         self
@@ -59,7 +56,7 @@ impl State {
     // So many trials more.
     pub fn counted(mut self, t: u64) -> Self
         requires { self.trials + t < 18446744073709551616 }
-        ensures { (m : _) × (result ≡ counted_of self t m) }
+        ensures { result ≡ counted_of self t }
     {
         self.trials += t;
         self
@@ -67,7 +64,7 @@ impl State {
 
     // The empty prefix at another length.
     pub fn again(mut self) -> Self
-        ensures { (m : _) × (result ≡ again_of self m) }
+        ensures { result ≡ again_of self }
     {
         self.begun[0] = self.trials;
         self
@@ -75,7 +72,7 @@ impl State {
 
     // The last letter.
     pub fn last(self) -> u8
-        requires { 0 < self.prefix.len }
+        requires { (0 < self.prefix.len) × (self.prefix.len ≤ 60) }
         ensures { result ≡ last_of self.prefix }
     {
         self.prefix.last()
@@ -83,6 +80,7 @@ impl State {
 
     // The trials since the prefix at hand was begun.
     pub fn since(self) -> u64
+        requires { (self.prefix.len ≤ 60) × Marks self }
         ensures { result ≡ since_of self }
     {
         self.trials - self.begun[self.prefix.len]

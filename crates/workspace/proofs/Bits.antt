@@ -3,18 +3,17 @@
 use mathlib.Core.Path.{◌≡◌, refl, sym, ap, ◌∙◌}
 use mathlib.Core.Logic.{◌≢◌}
 use mathlib.Core.Bool.{true, false, ◌&&◌, ◌||◌}
-use mathlib.Core.List.{List, ◌++◌}
+use mathlib.Core.List.{List}
 use Prim.Native.Nat.{ℕ, zero, suc, ◌+◌, ◌*◌, ◌/◌, ◌%◌, ◌^◌, ◌≤◌, ◌<◌}
 use native.Mathlib.Nat.{one-mul}
 use native.Mathlib.Omega.{arith}
 use native.Mathlib.Decide.{ℕ_discrete}
-use lib.ListN.{length, get_or, set, length-set, length-append, length-replicate, length-drop, replicate, drop, get_or-replicate, get_or-append}
-use lib.Seq.{get_or-set_same, get_or-set_other, set_out, drop_at, drop-set-lt}
+use lib.ListN.{length, get_or, set, length-set, replicate, drop, get_or-replicate}
+use lib.Seq.{get_or-set_same, get_or-set_other, set_out, drop-set-lt}
 use lib.Pow.{shl_exact}
 use lib.Bits.{bit_or, bit_and, and_mask}
 use lib.Dec.{eqb, ltb, lit<}
 use borrow.Author.Tests.{eqb-true, lt-ltb, le-ltb}
-use Rattle.paper.specs.Answers.{zeroed}
 use Rattle.workspace.specs.Bits.{bit, bit_at, set_bit, four_at, word_at, wiped, copied, joined, none_at}
 use Rattle.workspace.proofs.Spans.{lt_or_le}
 use Rattle.workspace.proofs.Words.{bit_lt, bit_zero, bit_or_lem, mark_same, mark_other, or_none_left, or_none_right, of_four, first, length_four, four_word, four_other, drop_four}

@@ -66,7 +66,7 @@ module _ (ws : List ℕ) (a : ℕ) where
   unfolding in_both
   one_is k = and_self (bit_at ws a k)
 
-  first_one : (p n q : ℕ) → First (in_both ws a a) p n q → First (bit_at ws a) p n q
+  pub first_one : (p n q : ℕ) → First (in_both ws a a) p n q → First (bit_at ws a) p n q
   first_one p n q f = record {
     low = f.low;
     high = f.high;

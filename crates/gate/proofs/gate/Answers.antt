@@ -22,6 +22,6 @@ returns c =
     let room : 7564 ≤ length a.work.now = omega (arith, c.in-Some-first_chunk_mut.ensures.cases) in
     let fit : length a.word.now ≡ n_of a.list.now = omega (arith, c.in-Some.ensures.1.length_is) in
     record {
-      said = rw (c.in-Some.ensures.0, eq-eqb _ _ fit, le-leb _ _ room, ← c.read.ensures.0);
-      left = leaves _ _ _ (ap (λ v. v ++ drop 7564 a.work.now) c.read.ensures.1);
+      said = rw (c.in-Some.ensures.0, eq-eqb _ _ fit, le-leb _ _ room, ← c.read-accepted.ensures.0);
+      left = leaves _ _ _ (ap (λ v. v ++ drop 7564 a.work.now) c.read-accepted.ensures.1);
     }

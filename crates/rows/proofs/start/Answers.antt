@@ -1,11 +1,11 @@
-use mathlib.Core.Path.{refl, ◌∙◌}
+use mathlib.Core.Path.{◌∙◌}
 use native.Mathlib.Omega.{arith}
 use Rattle.workspace.proofs.Bits.{length_set_bit}
-use Rattle.rows.proofs.ReachLaws.{started_none, started_more}
+use Rattle.rows.proofs.ReachLaws.{started_more}
 use Rattle.rows.proofs.start.Goals as goal
 
 pub loop-q-init : goal.loop-q-init
-loop-q-init c = (refl, started_none 1024)
+loop-q-init c = (omega arith, c.requires.1)
 
 pub loop-q-preserved : goal.loop-q-preserved
 loop-q-preserved c =

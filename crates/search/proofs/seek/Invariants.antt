@@ -9,7 +9,7 @@ use Rattle.search.proofs.seek.Given as goal
 abbrev pub invariant-loop-q : goal.invariant-loop-q
 invariant-loop-q l =
     let sheet = l.g.sheet.now in
-    Seeking (has_letter l.g.letters) l.slots.of (opens (sheet_of sheet.bytes.now)) sheet.shortest sheet.longest l.budget l.n l.q l.counts
+    Seeking (has_letter l.walk.letters.of) l.walk.slots.now.of (opens (sheet_of sheet.bytes.now)) l.shortest sheet.longest l.budget l.n l.q l.counts
 
 abbrev pub decreases-loop-q : goal.decreases-loop-q
 decreases-loop-q l = l.budget - l.q.trials

@@ -10,4 +10,4 @@ pub returns : goal.returns
 unfolding written
 returns c =
     let long : length c.args.p.bytes ≡ 60 = search rules in
-    rw (c.copy_from_slice.ensures.after, length-take-le c.args.p.len c.args.p.bytes (omega (arith, c.args.p.fits)))
+    rw (c.copy_from_slice.ensures.after, length-take-le c.args.p.len c.args.p.bytes (omega (arith, c.requires.0)))

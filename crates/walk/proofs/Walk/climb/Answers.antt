@@ -17,12 +17,12 @@ noted c = rw c.recall.ensures.noted (climb_note _ _ _ _ _ c.loop-q.q c.loop-q.co
 
 pub loop-q-preserved-in_default : goal.loop-q-preserved-in_default
 loop-q-preserved-in_default c =
-    rw c.back-q.ensures.2 (climb_back _ _ _ _ _ c.loop-q.q _ c.loop-q.invariant c.loop-q-test.true _ _ (rw (c.from.ensures, c.last.ensures) at c.in_default.ensures))
+    rw c.back-q.ensures (climb_back _ _ _ _ _ c.loop-q.q _ c.loop-q.invariant c.loop-q-test.true (rw (c.from.ensures, c.last.ensures) at c.in_default.ensures))
 
 pub returns-in_default-recall : goal.returns-in_default-recall
 returns-in_default-recall c =
     let at = goal.at.returns-in_default-recall c in
-    rw c.next.ensures.1 (climb_next _ _ _ _ _ c.loop-q.q _ (noted at.After-recall) c.loop-q-test.true _ (first at.In-Some) _)
+    rw c.next.ensures (climb_next _ _ _ _ _ c.loop-q.q _ (noted at.After-recall) c.loop-q-test.true _ (first at.In-Some))
 
 pub returns-then-budget-q : goal.returns-then-budget-q
 returns-then-budget-q c =
@@ -32,5 +32,5 @@ returns-then-budget-q c =
 pub loop-q-preserved : goal.loop-q-preserved
 loop-q-preserved c =
     let at = goal.at.loop-q-preserved c in
-    rw c.counted-q.ensures.1
-    (climb_skip _ _ _ _ _ c.loop-q.q _ (noted at.After-recall) c.loop-q-test.true _ (first at.In-Some) _ c.in-Some-recall.ensures.seen _ _ c.next-in-loop-q.ensures.1 _ c.if-budget-q.false)
+    rw (c.counted-q.ensures, c.next-in-loop-q.ensures)
+    (climb_skip _ _ _ _ _ c.loop-q.q _ (noted at.After-recall) c.loop-q-test.true _ (first at.In-Some) _ c.in-Some-recall.ensures.seen c.if-budget-q.false)

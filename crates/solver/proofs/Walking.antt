@@ -1,4 +1,4 @@
--- The walk of the search is the sheet's: the groundwork has its letters, and the lengths are the sheet's.
+-- The walk of the search is the sheet's: its letters and its lengths are.
 use Prim.Native.Nat.{ℕ}
 use mathlib.Core.Path.{◌≡◌, refl, ap, fun_ext, subst, ◌∙◌}
 use mathlib.Core.Bool.{Bool}
@@ -8,7 +8,7 @@ use Rattle.paper.specs.Sheet.{Sheet, sheet_of}
 use Rattle.paper.specs.Opens.{opens}
 use Rattle.paper.specs.Walk.{Walked, walk}
 use Rattle.paper.specs.Answers.{under, walk_of}
-use Rattle.groundwork.specs.declared.ground.Groundwork.{Groundwork}
+use Rattle.sheet.specs.declared.accepted.Sheet as sheet
 use Rattle.groundwork.specs.Laying.{LettersIn}
 use Rattle.walk_state.specs.Letters.{has_letter}
 use Rattle.search.specs.Tells.{Tells}
@@ -23,10 +23,9 @@ walk_is : (s : Sheet) (of : List ℕ) (lo hi : ℕ) → LettersIn s of → lo �
 unfolding has_letter walk_of
 walk_is s of lo hi h e f = ap (λ (is : ℕ → Bool). walk is (opens s) lo hi) (fun_ext h) ∙ rw (e, f)
 
-pub tells_walk : (g : Groundwork) (budget : ℕ) (r : Sought) → let sheet = g.sheet.now in
-    Tells sheet.longest (under budget (walk (has_letter g.letters) (opens (sheet_of sheet.bytes.now)) sheet.shortest sheet.longest)) r
+pub tells_walk : (sheet : sheet.Sheet) (letters : List ℕ) (budget : ℕ) (r : Sought) → LettersIn (sheet_of sheet.bytes.now) letters
+    → Tells sheet.longest (under budget (walk (has_letter letters) (opens (sheet_of sheet.bytes.now)) sheet.shortest sheet.longest)) r
     → Tells sheet.longest (under budget (walk_of (sheet_of sheet.bytes.now))) r
-tells_walk g budget r =
-    let sheet = g.sheet.now in
+tells_walk sheet letters budget r h =
     let l = lengths_are sheet.bytes.now in
-    subst (λ (w : Walked). Tells sheet.longest (under budget w) r) (walk_is (sheet_of sheet.bytes.now) g.letters sheet.shortest sheet.longest g.letters_are (sheet.shortest_is ∙ l.0) (sheet.longest_is ∙ l.1))
+    subst (λ (w : Walked). Tells sheet.longest (under budget w) r) (walk_is (sheet_of sheet.bytes.now) letters sheet.shortest sheet.longest h (sheet.shortest_is ∙ l.0) (sheet.longest_is ∙ l.1))
