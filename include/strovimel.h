@@ -9,7 +9,7 @@
  * - what a call may write (work, out, list of the maker) overlaps nothing else that is lent to it.
  *
  * A call reads and writes nothing but what is lent to it. It asks for no memory and keeps nothing between calls, so calls
- * on separate buffers may run at the same time. Its stack, measured by `compare/run stack`: the solver 23,512 bytes, the
+ * on separate buffers may run at the same time. Its stack, measured by `compare/run stack`: the solver 23,544 bytes, the
  * maker 19,288, the gate 344, either move 264. The library is x86-64 code. Link libstrovimel_c.a; or, for the gate
  * alone, libstrovimel_gate_c.a; not both.
  */

@@ -36,21 +36,18 @@ pub struct Groundwork<'a> {
 impl<'a> Groundwork<'a> {
     ghost use Rattle.paper.specs.Sheet.{letter};
 
-    // The groundwork of a sheet whose letters, empty words and reach are given.
-    pub fn of(
-        sheet: &'a Sheet<'a>,
-        letters: &[u64; 4],
-        empty: &[u64; 4],
-        reach: &'a [u64; 1024],
-    ) -> Self
-        requires { LettersIn (sheet_of sheet.now.bytes.now) letters.now × Nulls (grammar_of sheet.now.bytes.now) empty.now × Reached (grammar_of sheet.now.bytes.now) reach.now }
+    // The groundwork of a sheet whose letters are given, and a table lent for its reach.
+    pub fn of(sheet: &'a Sheet<'a>, letters: &[u64; 4], reach: &'a mut [u64; 1024]) -> Self
+        requires { LettersIn (sheet_of sheet.now.bytes.now) letters.now }
         ensures { result.sheet.now ≡ sheet.now }
     {
+        let empty = rows::nulls(sheet);
+        rows::reach(sheet, &empty, reach);
         let (pairs, count) = crate::pairs(sheet);
         Groundwork {
             sheet,
             reach,
-            empty: *empty,
+            empty,
             ranges: crate::ranges(sheet),
             letters: *letters,
             pairs,

@@ -67,14 +67,7 @@ fn planned(sheet: &Sheet, root: usize, n: usize, list: &mut [u8]) -> Result<usiz
     ensures { Makes made sheet.now.bytes.now root n list.old result list.new }
 {
     let mut table = [0; WORDS];
-    maker_options::prepare(sheet, n, &mut table);
-    let plan = Plan {
-        sheet,
-        root,
-        n,
-        table: &table,
-    };
-    fill(&plan, list)
+    fill(&Plan::of(sheet, root, n, &mut table), list)
 }
 
 // The cut list of a sheet's row for the length n, at the start of the space lent.

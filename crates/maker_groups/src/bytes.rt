@@ -14,7 +14,7 @@ pub enum Opt {
     Nil,
 }
 
-// The eight bytes of an option at o: its kind, its fields, and a field that is zero.
+// The eight bytes of an option at o: its kind, its fields, and a field that is zero. By numbers, since any kind may be asked for.
 pub fn put_fields(list: &mut [u8], o: usize, kind: u8, k: u8, a: usize, b: usize) -> usize
     requires { o + 8 ≤ length list.old }
     ensures { Put (field_bytes kind k a b) o list.old list.new result }

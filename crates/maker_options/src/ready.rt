@@ -1,10 +1,10 @@
-// What is made once a call: a plan's table.
+// What is made once a call: a plan and its table.
 ghost use Rattle.std.specs.Prelude.{◌≡◌, ◌+◌, ◌≤◌, ◌<◌};
 ghost use Rattle.paper.specs.Sheet.{grammar_of};
 ghost use Rattle.maker_options.specs.Giving.{giving};
 ghost use Rattle.maker_options.specs.Prepared.{Turned, Given, Ready};
 
-use super::{ROWS, WORDS, own_count};
+use super::{Plan, ROWS, WORDS, own_count};
 use sheet::Sheet;
 
 // The rows below n whose entry in `from` holds row r, into entry r, for each row r below n.
@@ -48,4 +48,20 @@ pub fn prepare(sheet: &Sheet, n: usize, table: &mut [u64; WORDS])
     turn(&reach, sheet.rows.count, table);
     workspace::copy(table, ROWS, &nulls, 0);
     give(sheet, n, table);
+}
+
+impl<'a> Plan<'a> {
+    // The plan for a row of a sheet and a length, in a table that is lent.
+    pub fn of(sheet: &'a Sheet<'a>, root: usize, n: usize, table: &'a mut [u64; WORDS]) -> Self
+        requires { (root < sheet.now.rows.count) × (n ≤ 60) }
+        ensures { (result.sheet.now ≡ sheet.now) × (result.root ≡ root) × (result.n ≡ n) }
+    {
+        prepare(sheet, n, table);
+        Plan {
+            sheet,
+            root,
+            n,
+            table,
+        }
+    }
 }

@@ -36,10 +36,8 @@ fn searched(sheet: &Sheet, budget: u64, work: &mut Workspace) -> Sought
     ensures { Tells sheet.now.longest (under budget (walk_of (sheet_of sheet.now.bytes.now))) result }
 {
     let letters = search::letters::letters_of(sheet);
-    let empty = rows::nulls(sheet);
     let mut reach = [0; 1024];
-    rows::reach(sheet, &empty, &mut reach);
-    let g = Groundwork::of(sheet, &letters.of, &empty, &reach);
+    let g = Groundwork::of(sheet, &letters.of, &mut reach);
     let slots = alike::slots_of(sheet);
     let walk = Walk {
         letters,

@@ -9,7 +9,7 @@ pub struct Slots {
     pub ghost small: { Small of },
 }
 
-// That of a byte in any table of numbers.
+// The slot of a byte, in any table of numbers.
 pub fn slot_of(slot: &[u8; 256], b: u8) -> usize
     ensures { result ≡ get_or slot.now b 0 }
 {

@@ -4,7 +4,7 @@ use Rattle.solver.proofs.searched.Goals as goal
 
 pub of-g-requires : goal.of-g-requires
 unfolding has_letter
-of-g-requires c = (c.letters_of-letters.ensures, c.nulls-empty.ensures, c.reach.ensures)
+of-g-requires c = c.letters_of-letters.ensures
 
 pub returns : goal.returns
 unfolding has_letter
