@@ -17,17 +17,17 @@ use Rattle.walk.proofs.Steps.{down_step, shut_step, stuck_step}
 use Rattle.walk.proofs.Frames.{frame_down, frame_counted, frame_before}
 use Rattle.walk.proofs.Known.{knows_down}
 
-module _ (is : ℕ → Bool) (slot : List ℕ) (budget n : ℕ) (q : State) (m : Counts) (h : q.prefix.len ≤ n) (top : n ≤ 60) (lt : q.trials < budget) where
+module _ (is : ℕ → Bool) (slot : List ℕ) (budget n : ℕ) (q : State) (m : Counts) (h : q.prefix.len ≤ n) (lt : q.trials < budget) where
   -- open, and there is a letter
-  pub adv_down : (b : ℕ) → Frame budget q q → q.prefix.len < n → FirstFrom is 0 (Some b)
+  pub adv_down : (b : ℕ) → Frame budget q q → q.prefix.len < n → q.prefix.len < 60 → FirstFrom is 0 (Some b)
       → Advanced is slot budget n true q m (Some (down_of (counted_of q 1) b)) (forgotten m q.prefix.len)
-  adv_down b i o f =
+  adv_down b i o g f =
       let l = i.letters in
       let k = i.notes in
       record {
         within = omega arith;
         more = omega arith;
-        frame = frame_down budget q (counted_of q 1) (frame_counted budget q q i 1 (omega arith)) b (omega arith);
+        frame = frame_down budget q (counted_of q 1) (frame_counted budget q q i 1 (omega arith)) b g;
         to = λ opens c a e. rw (add-one q.prefix.len)
             (down_step is opens n q.prefix.len q.prefix.bytes q.begun q.trials b a.0 o (omega arith) (omega arith) e f, knows_down is slot opens n q.prefix.len q.prefix.bytes m b a.1);
       }

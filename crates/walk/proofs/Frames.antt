@@ -2,21 +2,13 @@
 use mathlib.Core.Path.{◌≡◌, refl, ◌∙◌}
 use Prim.Native.Nat.{ℕ, ◌+◌, ◌≤◌, ◌<◌}
 use native.Mathlib.Omega.{arith}
-use native.Mathlib.Decide.{ℕ_discrete}
-use mathlib.Core.Logic.{◌≢◌}
 use mathlib.Core.List.{List}
 use lib.ListN.{length, get_or, set, length-set}
-use lib.Seq.{get_or-set_same, get_or-set_other}
+use lib.Seq.{get_or-set_other}
 use Rattle.walk_state.specs.declared.state.State.{State}
 use Rattle.walk_state.specs.Moves.{down_of, next_of, back_of, counted_of, again_of, Marks}
+use Rattle.walk_state.proofs.Kept.{short_longer, short_ending, short_shorter, marks_down, marks_next, marks_back, marks_counted, marks_again}
 use Rattle.walk.specs.Posts.{Frame}
-
-marks_set : (s : List ℕ) (k t j : ℕ) → k < length s → (j ≢ k → get_or s j 0 ≤ t) → get_or (set s k t) j 0 ≤ t
-marks_set s k t j h m = go (ℕ_discrete j k)
-  where
-    go : Dec (j ≡ k) → get_or (set s k t) j 0 ≤ t
-    go (yes e) = rw (e, get_or-set_same s k t 0 h) (omega arith)
-    go (no e) = rw (get_or-set_other s k j t 0 e) (m e)
 
 module _ (budget : ℕ) where
   pub frame_start : (q : State) → q.prefix.len ≤ 60 → length q.prefix.bytes ≡ 60 → length q.begun ≡ 61 → q.trials ≤ budget → Marks q → Frame budget q q
@@ -28,17 +20,16 @@ module _ (budget : ℕ) where
 
     pub frame_next : (b : ℕ) → 0 < q.prefix.len → Frame budget p (next_of q b)
     frame_next b pos =
-        let h = f.short in
         let l = f.letters in
         let v = f.notes in
         record {
-          short = h;
+          short = short_ending q.prefix b f.short;
           letters = simp length-set l;
           notes = simp length-set v;
           more = f.more;
           most = f.most;
           root = get_or-set_other q.begun q.prefix.len 0 q.trials 0 (omega arith) ∙ f.root;
-          marks = λ j i. marks_set q.begun q.prefix.len q.trials j (omega arith) (λ e. f.marks j i);
+          marks = marks_next q f.marks b;
         }
 
     pub frame_down : (b : ℕ) → q.prefix.len < 60 → Frame budget p (down_of q b)
@@ -46,30 +37,29 @@ module _ (budget : ℕ) where
         let l = f.letters in
         let v = f.notes in
         record {
-          short = omega arith;
+          short = short_longer q.prefix b h;
           letters = simp length-set l;
           notes = simp length-set v;
           more = f.more;
           most = f.most;
           root = get_or-set_other q.begun (q.prefix.len + 1) 0 q.trials 0 (omega arith) ∙ f.root;
-          marks = λ j i. marks_set q.begun (q.prefix.len + 1) q.trials j (omega arith) (λ e. f.marks j (omega arith));
+          marks = marks_down q f.marks b;
         }
 
     pub frame_back : Frame budget p (back_of q)
     frame_back =
-        let h = f.short in
-        record { short = omega arith; letters = f.letters; notes = f.notes; more = f.more; most = f.most; root = f.root; marks = λ j i. f.marks j (omega arith) }
+        record { short = short_shorter q.prefix f.short; letters = f.letters; notes = f.notes; more = f.more; most = f.most; root = f.root; marks = marks_back q f.marks }
 
     pub frame_counted : (t : ℕ) → q.trials + t ≤ budget → Frame budget p (counted_of q t)
     frame_counted t h =
         let m = f.more in
-        record { short = f.short; letters = f.letters; notes = f.notes; more = omega arith; most = h; root = f.root; marks = λ j i. omega (arith, f.marks j i) }
+        record { short = f.short; letters = f.letters; notes = f.notes; more = omega arith; most = h; root = f.root; marks = marks_counted q f.marks t }
 
     -- the next length has its root at the trials made
     pub frame_again : Frame budget (again_of q) (again_of q)
     frame_again =
         let v = f.notes in
-        frame_start (again_of q) f.short f.letters (simp length-set v) f.most (λ j i. marks_set q.begun 0 q.trials j (omega arith) (λ e. f.marks j i))
+        frame_start (again_of q) f.short f.letters (simp length-set v) f.most (marks_again q f.marks)
 
   -- from before some trials were counted
   pub frame_before : (p q : State) (t : ℕ) → Frame budget (counted_of p t) q → Frame budget p q

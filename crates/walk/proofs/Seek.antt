@@ -10,6 +10,7 @@ use Rattle.paper.specs.Walk.{walk}
 use Rattle.paper.specs.Answers.{Found, None, Spent, under}
 use Rattle.walk_state.specs.declared.state.State.{State}
 use Rattle.walk_state.specs.Moves.{start_state, again_of}
+use Rattle.walk_state.proofs.Kept.{short_empty, marks_start}
 use Rattle.walk.specs.Counts.{Counts}
 use Rattle.walk.specs.Progress.{Classes, Judging}
 use Rattle.walk.specs.Posts.{Frame, AdvancedTo, AdvancedOver}
@@ -31,7 +32,7 @@ module _ (is : ℕ → Bool) (slot : List ℕ) (opens : ℕ → List ℕ → Boo
     range = h;
     top = t;
     within = omega arith;
-    frame = frame_start budget start_state (omega arith) refl refl (omega arith) (λ j i. let z : j ≡ 0 = omega arith in rw z (omega arith));
+    frame = frame_start budget start_state short_empty refl refl (omega arith) marks_start;
     sofar = first_length is slot opens lo hi;
     at = at_root is slot opens lo hi lo start_state.prefix.bytes start_state.begun m 0 refl;
   }

@@ -3,7 +3,7 @@ ghost use Rattle.std.specs.Prelude.{◌≡◌, ◌<◌, ◌≤◌};
 ghost use Rattle.walk_state.specs.Moves.{empty_prefix, longer, ending, shorter, last_of};
 
 // An array of 60 bytes and how many of them there are, as paper 01 has it: a trial takes no memory. That they are at most 60 is no fact of the
-// type: `back` takes every length above 0.
+// type: `back` takes every length above 0. Every move keeps it (proofs/Kept.antt).
 #[derive(Clone, Copy)]
 pub struct Prefix {
     pub bytes: [u8; 60],

@@ -4,7 +4,8 @@ ghost use Rattle.walk_state.specs.Moves.{start_state, down_of, next_of, back_of,
 
 use crate::Prefix;
 
-// The prefix at hand, and the trials made. `Marks` is no fact of the type: only `since` needs it, and the moves take every state that their clauses admit.
+// The prefix at hand, and the trials made. `Marks` is no fact of the type: only `since` needs it, and the moves take every state that their clauses
+// admit. Every move keeps it (proofs/Kept.antt).
 #[derive(Clone, Copy)]
 pub struct State {
     pub prefix: Prefix,
