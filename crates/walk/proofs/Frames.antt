@@ -2,8 +2,7 @@
 use mathlib.Core.Path.{◌≡◌, refl, ◌∙◌}
 use Prim.Native.Nat.{ℕ, ◌+◌, ◌≤◌, ◌<◌}
 use native.Mathlib.Omega.{arith}
-use mathlib.Core.List.{List}
-use lib.ListN.{length, get_or, set, length-set}
+use lib.ListN.{length, length-set}
 use lib.Seq.{get_or-set_other}
 use Rattle.walk_state.specs.declared.state.State.{State}
 use Rattle.walk_state.specs.Moves.{down_of, next_of, back_of, counted_of, again_of, Marks}
